@@ -1,10 +1,9 @@
 -- The code of statements and blocks does what they mean.
 use Rattle.std.proofs.Common.{◌≡◌, ℕ, suc, ◌+◌, ◌<◌, ◌≤◌, Bool, true, false, ◌&&◌, ◌||◌, List, [], ◌∷◌, ◌++◌}
-use Rattle.std.proofs.Common.{Option, Some, None, refl, sym, ap, subst, ◌∙◌, arith, unwrap_or, ℤ, length}
-use Rattle.std.proofs.Common.{slice_get, nat_lt, if◌then◌else◌, ltb-true, ltb-false}
+use Rattle.std.proofs.Common.{Option, Some, None, refl, sym, ap, subst, ◌∙◌, arith, unwrap_or, length, ◌⊎◌}
+use Rattle.std.proofs.Common.{slice_get, nat_lt, if◌then◌else◌, ltb-true, ltb-false, inl, inr}
 use Rattle.std.proofs.lemmas.List.{length-map}
 use Rattle.std.proofs.lemmas.Bool.{or_from}
-use Rattle.au_base.specs.declared.kinds.IntKind.{IntKind}
 use Rattle.au_type_texts.specs.Types.{ClosedType}
 use Rattle.au_typing.specs.Returns as out
 use Rattle.au_effects.specs.Parts.{along}
@@ -17,7 +16,7 @@ use Rattle.au_lowered.specs.Drafts.{Draft, Written, plain, nothing, count_unless
 use Rattle.au_lowered.specs.Drafts as drafts
 use Rattle.au_lowered.specs.Expressions as code
 use Rattle.au_lowered.specs.Slots as slots_of
-use Rattle.au_lowered.specs.Slots.{kept, known, tag_in, fields_of_case, with_fields, room, room_of_block}
+use Rattle.au_lowered.specs.Slots.{kept, known, fields_of_case, with_fields, room, room_of_block}
 use Rattle.au_lowered.specs.Slots.{room_of_tests, room_of_arms}
 use Rattle.au_lowered.specs.Standing.{Stands, ArmsStand, InCases, PartsStandIn}
 use Rattle.au_lowered.specs.Statements.{start_of, count_of_cases, is_last}
@@ -31,7 +30,7 @@ use Rattle.au_meaning.specs.Names.{names_in, names_in_block, names_in_tests, nam
 use Rattle.au_meaning.specs.Names.{Scope, variable_of, mode_of, with_reference}
 use Rattle.au_meaning.specs.Statements as meaning
 use Rattle.au_meaning.specs.Statements.{Flow, and_then, is_tag, run, run_all, run_tests, run_arms, emptying}
-use Rattle.au_meaning.specs.Ticks.{Action, pure, tick, follows, needing, does, no_rule, ◌>>=◌, ◌>>◌}
+use Rattle.au_meaning.specs.Ticks.{Action, pure, tick, follows, needing, does, no_rule, ◌>>=◌, ◌>>◌, found_in}
 use Rattle.au_meaning.specs.Views.{View, Field}
 use Rattle.au_meaning.specs.Worlds.{Value, World}
 use Rattle.au_syntax.specs.Expressions.{Expression}
@@ -45,21 +44,20 @@ use Rattle.au_syntax.specs.Names.{Placed as Placed_name}
 use Rattle.au_syntax.specs.Plain.{Bytes}
 use Rattle.au_syntax.specs.declared.expressions.BorrowMode.{BorrowMode}
 use Rattle.au_syntax.specs.Types.{Bound}
-use Rattle.au_lowered.specs.Scopes.{Entry, variable, kept as keeps, numbers_in, slots_in, Scoped}
+use Rattle.au_lowered.specs.Scopes.{Entry, variable, kept as keeps, numbers_in, slots_in, Scoped, Distinct}
 use Rattle.au_lowered.specs.Frames.{Wide, resting, Agree, Frame, machine, spot, world}
-use Rattle.au_lowered.specs.Maps.{fields_to}
-use Rattle.au_lowered.specs.Sides.{as_meant, Coding, Both, Names, Slots, Common, Spot}
+use Rattle.au_lowered.specs.Sides.{Coding, Both, Names, Slots, Common, Spot}
 use Rattle.au_lowered.specs.Sides.{meant, all_meant, all_ran}
 use Rattle.au_lowered.specs.Runs as reach
 use Rattle.au_lowered.specs.Runs.{reached, Leads, Sim}
 use Rattle.au_lowered.proofs.LeadLemmas.{leads_to, leads_tick}
-use Rattle.au_lowered.proofs.MapLemmas.{listed_to}
 use Rattle.au_lowered.proofs.MoveLemmas.{jump_goes}
 use Rattle.au_lowered.proofs.SimLemmas.{sim_on, sim_bind}
+use Rattle.au_lowered.proofs.ScopeLemmas.{scoped_more, more_numbers, scoped_kept}
 use Rattle.au_lowered.proofs.StepLemmas.{ticks_at}
 use Rattle.au_lowered.specs.Binds.{fields_bound}
-use Rattle.au_lowered.proofs.FrameLemmas.{number_free, slot_free, under_more}
-use Rattle.au_lowered.proofs.ForLemmas.{loop_scope, for_does}
+use Rattle.au_lowered.proofs.FrameLemmas.{under_more}
+use Rattle.au_lowered.proofs.ForLemmas.{loop_scope, scoped_loop, for_does}
 use Rattle.au_lowered.proofs.RoomLemmas.{block_least}
 use Rattle.au_lowered.specs.Premises.{GoodView, Placed, GoodCalls, Once}
 use Rattle.au_lowered.specs.Flows.{flow_aim, Behind, Inside, Ended, After, Does, Whole}
@@ -68,15 +66,16 @@ use Rattle.au_lowered.specs.Trees.{BindsOnce, BlockBindsOnce, TestsBindOnce, Arm
 use Rattle.au_lowered.proofs.CaseLemmas.{label_of, label_in, counted_tag, tag_is, arm_ends}
 use Rattle.au_lowered.proofs.DestructureLemmas.{destructure_does}
 use Rattle.au_lowered.proofs.TakeLemmas.{all_filled, all_named, named_is}
-use Rattle.au_lowered.proofs.TakeRowLemmas.{consumed, consumed_meant, taken_low, counted_is, none_counted, opened}
+use Rattle.au_lowered.proofs.TakeRowLemmas.{counted_is, none_counted, opened}
 use Rattle.au_lowered.proofs.ExpressionLemmas.{expression_runs}
 use Rattle.au_lowered.proofs.FlowLemmas.{flow_holds, then_runs, empties_run, ended_emptied, ended_outer, ended_none}
 use Rattle.au_lowered.proofs.FlowLemmas.{whole_runs, opening, opening_agrees}
 use Rattle.au_lowered.proofs.BorrowLemmas.{put_does, borrow_does}
-use Rattle.au_lowered.proofs.LevelLemmas.{level_of}
 use Rattle.au_lowered.proofs.LoopLemmas.{branch_does, while_does}
 use Rattle.au_lowered.proofs.StatementLemmas.{skip_does, none_declared, declare_does}
 use Rattle.au_lowered.proofs.StatementLemmas.{discard_does, return_does, assign_does}
+use Rattle.au_lowered.proofs.ToldLemmas.{Told, told_both, told_low}
+use Rattle.au_effects.specs.Cases.{told_apart}
 
 and_assoc : (a b c : Bool) → (a && (b && c)) ≡ ((a && b) && c)
 and_assoc true b c = refl
@@ -135,24 +134,6 @@ module _ {T C : Type 0} (by : Coding) (see : View ℕ T C) (invoke : ℕ → Lis
       none_declared by f get placed depth (resting wide around) most scope number slot number2 slot2 scoped le le2
       names held ag
 
-  -- one more variable
-  scoped_more : (number slot : ℕ) (scope : List (Entry by)) → Scoped by number slot scope
-      → by.slot number ≡ slot → (name : Bytes) (of : Option ClosedType)
-      → Scoped by (number + 1) (slot + 1) (variable name number slot of ∷ scope)
-  scoped_more number slot scope scoped home name of = record {
-    distinct = (
-      number_free by number slot number scope scoped.under (omega arith),
-      slot_free by number slot slot scope scoped.under (omega arith),
-      home,
-      scoped.distinct,
-    );
-    under = (
-      omega arith,
-      omega arith,
-      under_more by number slot (number + 1) (slot + 1) scope (omega arith) (omega arith) scoped.under,
-    );
-  }
-
   -- a statement that declares nothing
   nothing_new : (around : ℕ) (out : Bool) (number slot number2 slot2 : ℕ) (scope : List (Entry by))
       → Scoped by number slot scope → number ≤ number2 → slot ≤ slot2
@@ -190,63 +171,6 @@ module _ {T C : Type 0} (by : Coding) (see : View ℕ T C) (invoke : ℕ → Lis
         ))
         (a.runs p q names slots c n stands ag le);
   }
-
-  more_numbers : (number slot number2 : ℕ) (scope : List (Entry by)) → number ≤ number2
-      → Scoped by number slot scope → Scoped by number2 slot scope
-  more_numbers number slot number2 scope le scoped =
-      record {
-        distinct = scoped.distinct;
-        under = under_more by number slot number2 slot scope le (omega
-            arith) scoped.under;
-      }
-
-  scoped_kept : (number slot : ℕ) (scope : List (Entry by)) → Scoped by number slot scope → (a : Both by)
-      → Scoped by number (slot + 1) (keeps slot a ∷ scope)
-  scoped_kept number slot scope scoped a = record {
-    distinct = (slot_free by number slot slot scope scoped.under (omega arith), scoped.distinct);
-    under = (
-      omega arith,
-      under_more by number slot number (slot + 1) scope (omega arith) (omega arith)
-          scoped.under,
-    );
-  }
-
-  scoped_loop : (around number slot : ℕ) (scope : List (Entry by)) → Scoped by number slot scope
-      → by.slot number ≡ slot + 2
-      → (name : Bytes) (of : Option ClosedType) (kind kind2 : IntKind) (z last : ℤ)
-      → Scoped by (number + 1) (slot + 3) (variable name number (slot + 2) of ∷ loop_scope by f get placed depth (resting wide around) most slot kind kind2 z last scope)
-  scoped_loop around number slot scope scoped home name of kind kind2 z last =
-      let u = scoped.under in
-      record {
-        distinct = (
-          number_free by number slot number scope u (omega arith),
-          (
-            (λ e. absurd (omega (arith, e))),
-            (
-              (λ e. absurd (omega (arith, e))),
-              slot_free by number slot
-                  (slot + 2) scope u (omega arith),
-            ),
-          ),
-          home,
-          (
-            ((λ e. absurd (omega (arith, e))), slot_free by number slot (slot + 1) scope u (omega arith)),
-            (slot_free by number slot slot scope u (omega arith), scoped.distinct),
-          ),
-        );
-        under = (
-          omega arith,
-          omega arith,
-          (
-            omega arith,
-            (
-              omega arith,
-              under_more by number slot (number +
-                  1) (slot + 3) scope (omega arith) (omega arith) u,
-            ),
-          ),
-        );
-      }
 
   -- a borrow statement
   borrow_so : (mode : BorrowMode) (x r : Bytes) (body : Statements Bytes T C) (around number slot : ℕ) (scope :
@@ -302,11 +226,11 @@ module _ {T C : Type 0} (by : Coding) (see : View ℕ T C) (invoke : ℕ → Lis
       let code_of = written.block see around (slot + length fields) (with_fields fields slot binds (slots_in
       by scope)) body in
       let next = p + length (code_of p) + count_unless (out.block_returns body || is_last rest) in
-      let two = counted_tag tag (tag_in see note name.name) p (written.arms_of see around slot (slots_in by
+      let two = counted_tag tag (meaning.tag_told see note name.name) p (written.arms_of see around slot (slots_in by
       scope) note rest next).starts h in
       ap (λ b. meaning.either b (meaning.within number own (meaning.binds_fields number binds
-      (meaning.fields_noted see note tag) values >> run_all see invoke depth (number + length binds)
-      (with_bound (meaning.fields_noted see note tag) number binds (numbers_in by scope)) body))
+      (meaning.fields_told see note tag) values >> run_all see invoke depth (number + length binds)
+      (with_bound (meaning.fields_told see note tag) number binds (numbers_in by scope)) body))
       (run_arms see invoke depth (number + own) (numbers_in by scope) note rest (tag, values)) w l)
       two.0
       ∙ no_arm rest around (number + own) slot scope note next tag values w l two.1
@@ -400,9 +324,9 @@ module _ {T C : Type 0} (by : Coding) (see : View ℕ T C) (invoke : ℕ → Lis
   unfolding follows
   arm_does around number slot scope note at_when name binds body rest scoped fits rooms once homes inner p q
       stands tag vs n l s names slots c ag le lead others =
-      by_tag (is_tag tag (tag_in see note name.name)) refl
+      by_tag (is_tag tag (meaning.tag_told see note name.name)) refl
     where
-      by_tag : (b : Bool) → is_tag tag (tag_in see note name.name) ≡ b
+      by_tag : (b : Bool) → is_tag tag (meaning.tag_told see note name.name) ≡ b
           → Sim by f (flow_aim by f (Behind_so around (out.block_returns body && out.arms_return rest) scope) q) 0
           s n
           (run_arms see invoke depth number (numbers_in by scope) note (arms at_when name binds body rest)
@@ -410,8 +334,8 @@ module _ {T C : Type 0} (by : Coding) (see : View ℕ T C) (invoke : ℕ → Lis
       by_tag true e =
           let own = length binds + names_in_block body in
           let fields = fields_of_case see note name.name in
-          let mine = tag_in see note name.name in
-          let fn = meaning.fields_noted see note tag in
+          let mine = meaning.tag_told see note name.name in
+          let fn = meaning.fields_told see note tag in
           let arm = parts.of_arm (out.block_returns body || is_last rest) mine (written.block see around
           (slot + length fields) (with_fields fields slot binds (slots_in by scope)) body)
           (written.arms_of see around slot (slots_in by scope) note rest) p q stands in
@@ -420,7 +344,7 @@ module _ {T C : Type 0} (by : Coding) (see : View ℕ T C) (invoke : ℕ → Lis
           ∙ ap (λ b. if b then p else start_of tag (written.arms_of see around slot (slots_in by scope)
           note rest arm.next).starts) e in
           let lead1 = leads_to by.code (ap (λ k. reach.at (spot by f k [] slots2 c)) start) lead in
-          let fields_are : fields ≡ known fn = ap (λ o. known (along o (meaning.fields_noted see note)))
+          let fields_are : fields ≡ known fn = ap (λ o. known (along o (meaning.fields_told see note)))
           (tag_is tag mine e) in
           let least = block_least see body (slot + length fields) in
           let rooms2 : slot + length (known fn) ≤ most = omega (
@@ -452,7 +376,8 @@ module _ {T C : Type 0} (by : Coding) (see : View ℕ T C) (invoke : ℕ → Lis
           )) (sim_on by f out_of
           lead1 run) in
           let ended = arm_ends by f get placed depth (resting wide around) most see around slot (slots_in by scope) note rest
-          (out.block_returns body) arm.middle arm.next q scope (follows out_of (and_then (meaning.empties number own))) arm.jump arm.rest left in
+          (out.block_returns body) arm.middle arm.next q scope (follows out_of (and_then
+          (meaning.empties number own))) arm.jump arm.rest left in
           let held = flow_holds by f (follows out_of (and_then (meaning.empties number own))) (λ names slots h. (
             ap (λ
                 b. b && out.arms_return rest) h.0,
@@ -467,8 +392,8 @@ module _ {T C : Type 0} (by : Coding) (see : View ℕ T C) (invoke : ℕ → Lis
       by_tag false e =
           let own = length binds + names_in_block body in
           let fields = fields_of_case see note name.name in
-          let mine = tag_in see note name.name in
-          let fn = meaning.fields_noted see note tag in
+          let mine = meaning.tag_told see note name.name in
+          let fn = meaning.fields_told see note tag in
           let arm = parts.of_arm (out.block_returns body || is_last rest) mine (written.block see around
           (slot + length fields) (with_fields fields slot binds (slots_in by scope)) body)
           (written.arms_of see around slot (slots_in by scope) note rest) p q stands in
@@ -500,10 +425,10 @@ module _ {T C : Type 0} (by : Coding) (see : View ℕ T C) (invoke : ℕ → Lis
   unfolding follows
   too_many no_arms number slot scope note tag vs w l rooms h = refl
   too_many (arms at_when name binds body rest) number slot scope note tag vs w l rooms h =
-      by_tag (is_tag tag (tag_in see note name.name)) refl (too_many rest (number + (length binds +
+      by_tag (is_tag tag (meaning.tag_told see note name.name)) refl (too_many rest (number + (length binds +
       names_in_block body)) slot scope note tag vs w l (omega (arith, rooms)) h)
     where
-      by_tag : (b : Bool) → is_tag tag (tag_in see note name.name) ≡ b
+      by_tag : (b : Bool) → is_tag tag (meaning.tag_told see note name.name) ≡ b
           → run_arms see invoke depth (number + (length binds + names_in_block body)) (numbers_in by scope)
           note rest (tag, all_meant by vs) w l ≡ no_rule w l
           → run_arms see invoke depth number (numbers_in by scope) note (arms at_when name binds body rest)
@@ -511,9 +436,9 @@ module _ {T C : Type 0} (by : Coding) (see : View ℕ T C) (invoke : ℕ → Lis
       by_tag true e ih =
           let own = length binds + names_in_block body in
           let fields = fields_of_case see note name.name in
-          let fn = meaning.fields_noted see note tag in
-          let fields_are : fields ≡ known fn = ap (λ o. known (along o (meaning.fields_noted see note)))
-          (tag_is tag (tag_in see note name.name) e) in
+          let fn = meaning.fields_told see note tag in
+          let fields_are : fields ≡ known fn = ap (λ o. known (along o (meaning.fields_told see note)))
+          (tag_is tag (meaning.tag_told see note name.name) e) in
           let least = block_least see body (slot + length fields) in
           let count = length-map vs (meant by) in
           let fewer : length (known fn) < length (all_meant by vs) = omega (
@@ -533,121 +458,114 @@ module _ {T C : Type 0} (by : Coding) (see : View ℕ T C) (invoke : ℕ → Lis
           scope)) body)) (and_then (meaning.empties number own))) (none_counted fn (all_meant by vs) binds fewer)
       by_tag false e ih =
           let own = length binds + names_in_block body in
-          let fn = meaning.fields_noted see note tag in
+          let fn = meaning.fields_told see note tag in
           ap (λ b. meaning.either b (meaning.within number own (meaning.binds_fields number binds fn
           (all_meant by vs) >> run_all see invoke depth (number + length binds) (with_bound fn number
           binds (numbers_in by scope)) body)) (run_arms see invoke depth (number + own) (numbers_in by
           scope) note rest (tag, all_meant by vs)) w l) e ∙ ih
 
+  -- a case, of a value that is told apart
+  case_told : (all : Arms Bytes T C) (around number slot : ℕ) (scope : List (Entry by)) (distinct : Distinct by
+      scope) (note : T) → room_of_arms see slot note all ≤ most → ArmsRun around number slot scope note all
+      → (v : Both by) (p q l : ℕ) (names : Names) (slots : Slots) (c : Common by)
+      → InCases get slot (written.arms_of see around slot (slots_in by scope) note all) p q
+      → Agree by f (resting wide around) most scope names slots → l ≤ depth
+      → (told : Told by f (resting wide around) most scope distinct v names slots c)
+      → (a b : Bool) → nat_lt most (slot + length told.fields) ≡ a
+      → nat_lt told.tag (count_of_cases (written.arms_of see around slot (slots_in by scope) note all (p + 1)).starts)
+      ≡ b
+      → Sim by f (flow_aim by f (Behind_so around (out.arms_return all) scope) q) 0 (spot by f p (v ∷ []) slots c) (suc
+      l) (run_arms see invoke depth number (numbers_in by scope) note all (told.tag, all_meant by told.fields) (world by
+      f names (record c { store = told.store })) l)
+  unfolding act
+  case_told all around number slot scope distinct note rooms run v p q l names slots c cs ag le told true b x y =
+      let wide_value : most < slot + length told.fields = ltb-true most (slot + length told.fields) x in
+      subst (λ r. Sim by f (flow_aim by f (Behind_so around (out.arms_return all) scope) q) 0 (spot by f p (v ∷ []) slots
+      c) (suc l) r)
+      (sym (too_many all number slot scope note told.tag told.fields (world by f names (record c { store = told.store }))
+      l rooms wide_value)) (record { follows = tt })
+  case_told all around number slot scope distinct note rooms run v p q l names slots c cs ag le told false false x y =
+      let starts = (written.arms_of see around slot (slots_in by scope) note all (p + 1)).starts in
+      let least : count_of_cases starts ≤ told.tag = ltb-false told.tag (count_of_cases starts) y in
+      subst (λ r. Sim by f (flow_aim by f (Behind_so around (out.arms_return all) scope) q) 0 (spot by f p (v ∷ []) slots
+      c) (suc l) r)
+      (sym (no_arm all around number slot scope note (p + 1) told.tag (all_meant by told.fields) (world by f names
+      (record c { store = told.store })) l least)) (record { follows = tt })
+  case_told all around number slot scope distinct note rooms run v p q l names slots c cs ag le told false true x y =
+      let vs = told.fields in
+      let c2 = record c { store = told.store } in
+      let starts = (written.arms_of see around slot (slots_in by scope) note all (p + 1)).starts in
+      let labels = written.labels_of (count_of_cases starts) starts in
+      let slots2 = all_filled slot (all_ran by vs) slots in
+      let s = spot by f p (v ∷ []) slots c in
+      let less : told.tag < count_of_cases starts = ltb-true told.tag (count_of_cases starts) y in
+      let few : slot + length vs ≤ most = ltb-false most (slot + length vs) x in
+      let label = label_of (count_of_cases starts) told.tag starts less in
+      let goal = label_in labels (length (low.instructions (slice_get by.code.functions f.function)))
+      told.tag (start_of told.tag starts) (placed.labels p (instr.Case slot labels) cs.goes) label in
+      let there : reached s (act by.code (instr.Case slot labels) s.machine)
+      ≡ reach.at (spot by f (start_of told.tag starts) [] slots2 c2) =
+      ap (λ nx. reached s nx) (told_low by f (resting wide around) most scope distinct v slot p names slots c
+      (low.goes_to_case by.code labels) ag told (omega (arith, few, ag.slots_are)))
+      ∙ ap (λ o. reached s (machines.having o (λ k. low.jumps by.code k (machine by f p [] slots2 c2))))
+      label
+      ∙ ap (λ nx. reached s nx) (jump_goes by f (start_of told.tag starts) p [] slots2 c2 goal) in
+      run (p + 1) q cs.arms told.tag vs (suc l) l s names slots c2 ag le (leads_to by.code there (leads_tick
+      by.code s (instr.Case slot labels) l (placed.has p (plain (instr.Case slot labels)) cs.goes)))
+
   -- a case, of a value
-  case_value : (all : Arms Bytes T C) (around number slot : ℕ) (scope : List (Entry by)) (note : T)
-      → room_of_arms see slot note all ≤ most → ArmsRun around number slot scope note all
+  case_value : (all : Arms Bytes T C) (around number slot : ℕ) (scope : List (Entry by)) (distinct : Distinct by
+      scope) (note : T) → room_of_arms see slot note all ≤ most → ArmsRun around number slot scope note all
       → (v : Both by) (p q l : ℕ) (names : Names) (slots : Slots) (c : Common by)
       → InCases get slot (written.arms_of see around slot (slots_in by scope) note all) p q
       → Agree by f (resting wide around) most scope names slots → l ≤ depth
       → Sim by f (flow_aim by f (Behind_so around (out.arms_return all) scope) q) 0 (spot by f p (v ∷ []) slots c)
       (suc l)
-      (follows (acts.apart (meant by v) (world by f names c) l) (run_arms see invoke depth number
+      (follows (acts.tells_apart (meant by v) (world by f names c) l) (run_arms see invoke depth number
       (numbers_in by scope) note all))
-  unfolding follows act
-  case_value all around number slot scope note rooms run values.unit p q l names slots c cs ag le = record {
-    follows = tt;
-  }
-  case_value all around number slot scope note rooms run (values.truth b) p q l names slots c cs ag le =
-      record { follows = tt }
-  case_value all around number slot scope note rooms run (values.number kind z) p q l names slots c cs ag le
-      = record { follows = tt }
-  case_value all around number slot scope note rooms run (values.text t) p q l names slots c cs ag le =
-      record { follows = tt }
-  case_value all around number slot scope note rooms run (values.made tag birth fields) p q l names slots c
-      cs ag le =
-      let vs = values.listed fields in
-      let c2 = consumed by f birth c in
-      subst (λ w. Sim by f (flow_aim by f (Behind_so around (out.arms_return all) scope) q) 0 (spot by f p
-      (values.made tag birth fields ∷ []) slots c) (suc l) (run_arms see invoke depth number (numbers_in
-      by scope) note all (tag, values.listed (fields_to (as_meant by) fields)) w l)) (sym
-      (consumed_meant by f birth names c))
-      (subst (λ held. Sim by f (flow_aim by f (Behind_so around (out.arms_return all) scope) q) 0 (spot by f p
-      (values.made tag birth fields ∷ []) slots c) (suc l) (run_arms see invoke depth number (numbers_in
-      by scope) note all (tag, held) (world by f names c2) l)) (sym (listed_to (as_meant by) fields))
-      (by_tests (nat_lt most (slot + length vs)) (nat_lt tag (count_of_cases (written.arms_of see around
-      slot (slots_in by scope) note all (p + 1)).starts)) refl refl))
+  unfolding follows
+  case_value all around number slot scope distinct note rooms run v p q l names slots c cs ag le =
+      by_told (told_both by f (resting wide around) most scope distinct v names slots c ag)
     where
-      by_tests : (a b : Bool) → nat_lt most (slot + length (values.listed fields)) ≡ a
-          → nat_lt tag (count_of_cases (written.arms_of see around slot (slots_in by scope) note all (p +
-          1)).starts) ≡ b
-          → Sim by f (flow_aim by f (Behind_so around (out.arms_return all) scope) q) 0 (spot by f p (values.made
-          tag birth fields ∷ []) slots c) (suc l) (run_arms see invoke depth number (numbers_in by
-          scope) note all (tag, all_meant by (values.listed fields)) (world by f names (consumed by f
-          birth c)) l)
-      by_tests true b x y =
-          let wide_value : most < slot + length (values.listed fields) = ltb-true most (slot + length
-          (values.listed fields)) x in
-          subst (λ r. Sim by f (flow_aim by f (Behind_so around (out.arms_return all) scope) q) 0 (spot by f p
-          (values.made tag birth fields ∷ []) slots c) (suc l) r)
-          (sym (too_many all number slot scope note tag (values.listed fields) (world by f names (consumed
-          by f birth c)) l rooms wide_value)) (record { follows = tt })
-      by_tests false false x y =
-          let least : count_of_cases (written.arms_of see around slot (slots_in by scope) note all (p +
-          1)).starts ≤ tag = ltb-false tag (count_of_cases (written.arms_of see around slot (slots_in by
-          scope) note all (p + 1)).starts) y in
-          subst (λ r. Sim by f (flow_aim by f (Behind_so around (out.arms_return all) scope) q) 0 (spot by f p
-          (values.made tag birth fields ∷ []) slots c) (suc l) r)
-          (sym (no_arm all around number slot scope note (p + 1) tag (all_meant by (values.listed fields))
-          (world by f names (consumed by f birth c)) l least)) (record { follows = tt })
-      by_tests false true x y =
-          let vs = values.listed fields in
-          let c2 = consumed by f birth c in
-          let starts = (written.arms_of see around slot (slots_in by scope) note all (p + 1)).starts in
-          let labels = written.labels_of (count_of_cases starts) starts in
-          let slots2 = all_filled slot (all_ran by vs) slots in
-          let s = spot by f p (values.made tag birth fields ∷ []) slots c in
-          let less : tag < count_of_cases starts = ltb-true tag (count_of_cases starts) y in
-          let few : slot + length vs ≤ most = ltb-false most (slot + length vs) x in
-          let label = label_of (count_of_cases starts) tag starts less in
-          let goal = label_in labels (length (low.instructions (slice_get by.code.functions f.function)))
-          tag (start_of tag starts) (placed.labels p (instr.Case slot labels) cs.goes) label in
-          let there : reached s (act by.code (instr.Case slot labels) s.machine)
-          ≡ reach.at (spot by f (start_of tag starts) [] slots2 c2) =
-          ap (λ nx. reached s nx) (taken_low by f tag birth fields slot p slots c (low.goes_to_case by.code
-          labels) (level_of by f names slots ag.rest) (omega (arith, few, ag.slots_are)))
-          ∙ ap (λ o. reached s (machines.having o (λ k. low.jumps by.code k (machine by f p [] slots2 c2))))
-          label
-          ∙ ap (λ nx. reached s nx) (jump_goes by f (start_of tag starts) p [] slots2 c2 goal) in
-          run (p + 1) q cs.arms tag vs (suc l) l s names slots c2 ag le (leads_to by.code there (leads_tick
-          by.code s (instr.Case slot labels) l (placed.has p (plain (instr.Case slot labels)) cs.goes)))
-  case_value all around number slot scope note rooms run (values.reference borrow place) p q l names slots c
-      cs ag le = record { follows = tt }
-  case_value all around number slot scope note rooms run (values.box id) p q l names slots c cs ag le =
-      record { follows = tt }
-  case_value all around number slot scope note rooms run (values.buffer id) p q l names slots c cs ag le =
-      record { follows = tt }
-  case_value all around number slot scope note rooms run (values.terminal id) p q l names slots c cs ag le =
-      record { follows = tt }
-  case_value all around number slot scope note rooms run (values.root id) p q l names slots c cs ag le =
-      record { follows = tt }
+      by_told : (told_apart (meant by v) (world by f names c).store ≡ None) ⊎ Told by f (resting wide around) most scope
+          distinct v names slots c
+          → Sim by f (flow_aim by f (Behind_so around (out.arms_return all) scope) q) 0 (spot by f p (v ∷ []) slots c)
+          (suc l)
+          (follows (acts.tells_apart (meant by v) (world by f names c) l) (run_arms see invoke depth number
+          (numbers_in by scope) note all))
+      by_told (inl none) =
+          subst (λ o. Sim by f (flow_aim by f (Behind_so around (out.arms_return all) scope) q) 0 (spot by f p (v ∷ [])
+          slots c) (suc l) (follows (found_in (acts.stored o (world by f names c)) (world by f names c) l) (run_arms see
+          invoke depth number (numbers_in by scope) note all))) (sym none) (record { follows = tt })
+      by_told (inr told) =
+          subst (λ o. Sim by f (flow_aim by f (Behind_so around (out.arms_return all) scope) q) 0 (spot by f p (v ∷ [])
+          slots c) (suc l) (follows (found_in (acts.stored o (world by f names c)) (world by f names c) l) (run_arms see
+          invoke depth number (numbers_in by scope) note all))) (sym told.in_meaning)
+          (case_told all around number slot scope distinct note rooms run v p q l names slots c cs ag le told (nat_lt most
+          (slot + length told.fields)) (nat_lt told.tag (count_of_cases (written.arms_of see around slot (slots_in by
+          scope) note all (p + 1)).starts)) refl refl)
 
   case_does : {w : Written} {m : Action Value} (all : Arms Bytes T C) (around number slot : ℕ) (scope : List
-      (Entry by)) (note : T) → room_of_arms see slot note all ≤ most
+      (Entry by)) (distinct : Distinct by scope) (note : T) → room_of_arms see slot note all ≤ most
       → Whole by f get depth (resting wide around) most scope w m → ArmsRun around number slot scope note all
       → Does_so around scope (drafts.◌>>◌ w (written.cases slot (written.arms_of see around slot (slots_in by
       scope) note all)))
-      (m >>= λ v. tick (acts.apart v >>= run_arms see invoke depth number (numbers_in by scope) note all))
+      (m >>= λ v. tick (acts.tells_apart v >>= run_arms see invoke depth number (numbers_in by scope) note all))
       (Behind_so around (out.arms_return all) scope)
-  case_does {w} {m} all around number slot scope note rooms a run = record {
+  case_does {w} {m} all around number slot scope distinct note rooms a run = record {
     runs = λ p q names slots c n stands ag le.
         let row = parts.of_row w (written.cases slot (written.arms_of see around slot (slots_in by scope)
         note all)) p q stands in
         let cs = parts.of_cases slot (written.arms_of see around slot (slots_in by scope) note all)
         row.middle q row.second in
-        let go = λ (v : Value). (acts.apart v >>= run_arms see invoke depth number (numbers_in by scope)
+        let go = λ (v : Value). (acts.tells_apart v >>= run_arms see invoke depth number (numbers_in by scope)
         note all) in
         sim_bind by f (meant by) (λ v names slots. Agree by f (resting wide around) most scope names slots) (λ v slots c. spot
         by f row.middle (v ∷ []) slots c)
         (m (world by f names c) n) (λ v. tick (go v)) (a.runs p row.middle names slots c n row.first ag le)
         (λ v names slots c k ag few.
         ticks_at by f (go (meant by v)) row.middle (v ∷ []) names slots c k (λ l e.
-        case_value all around number slot scope note rooms run v row.middle q l names slots c cs ag (omega
+        case_value all around number slot scope distinct note rooms run v row.middle q l names slots c cs ag (omega
         (arith, le, few, e))));
   }
 
@@ -667,7 +585,7 @@ module _ {T C : Type 0} (by : Coding) (see : View ℕ T C) (invoke : ℕ → Lis
         (note_of e)) scoped homes fits rooms (whole_so around number slot scope scoped e)
     statement_does (destructure at binds e) around number slot scope scoped homes fits rooms good =
         destructure_does by f get placed depth (resting wide around) most number slot scope scoped binds good fits
-        (meaning.fields_noted see (note_of e) 0) rooms homes (whole_so around number slot scope scoped e)
+        (meaning.fields_noted see (note_of e)) rooms homes (whole_so around number slot scope scoped e)
     statement_does (assign at x path e) around number slot scope scoped homes fits rooms good =
         assign_does by f get placed depth (resting wide around) most see scope x.name (names_of path)
         scoped.distinct (nothing_so around number slot scope scoped (number + 0) (slot + 0) (omega arith) (omega
@@ -684,7 +602,7 @@ module _ {T C : Type 0} (by : Coding) (see : View ℕ T C) (invoke : ℕ → Lis
         slots ag. (refl, ag))))
     statement_does (conditional_else at tests other) around number slot scope scoped homes fits rooms good =
         let after_tests = number + names_in_tests tests in
-        let inner = more_numbers number slot after_tests scope (omega arith) scoped in
+        let inner = more_numbers by number slot after_tests scope (omega arith) scoped in
         does_holds (λ names slots h. nothing_new around (out.branches_return tests && out.block_returns other)
         number slot (number + (names_in_tests tests + names_in_block other)) (slot + 0) scope scoped
         (omega arith) (omega arith) names slots h)
@@ -696,7 +614,7 @@ module _ {T C : Type 0} (by : Coding) (see : View ℕ T C) (invoke : ℕ → Lis
     statement_does (case_of at e all) around number slot scope scoped homes fits rooms good =
         does_holds (λ names slots h. nothing_new around (out.arms_return all) number slot (number + names_in_arms
         all) (slot + 0) scope scoped (omega arith) (omega arith) names slots h)
-        (case_does all around number slot scope (note_of e) rooms (whole_so around number slot scope scoped
+        (case_does all around number slot scope scoped.distinct (note_of e) rooms (whole_so around number slot scope scoped
         e) (λ p q stands tag vs n l s names slots c ag le lead.
         arms_do all around number slot scope (note_of e) scoped homes fits rooms good p q stands tag vs n l s
         names slots c ag le lead))
@@ -720,20 +638,21 @@ module _ {T C : Type 0} (by : Coding) (see : View ℕ T C) (invoke : ℕ → Lis
         let top : number + 1 + names_in_block body ≡ number + (1 + names_in_block body) = omega arith in
         does_holds (λ names slots h. subst (λ t. Inside_so around (out.block_returns body) (number + 1) t inner
         names slots) top h)
-        (all_do body around (number + 1) (slot + 3) inner (scoped_loop around number slot scope scoped homes.0
+        (all_do body around (number + 1) (slot + 3) inner (scoped_loop by f get placed depth (resting wide around)
+        most number slot scope scoped homes.0
         name.name of kind kind2 z last_number) homes.1 (omega (arith, fits)) rooms good))
         (whole_so around number slot scope scoped first)
-        (λ a. whole_so around number (slot + 1) (keeps slot a ∷ scope) (scoped_kept number slot scope scoped
+        (λ a. whole_so around number (slot + 1) (keeps slot a ∷ scope) (scoped_kept by number slot scope scoped
         a) last))
     statement_does (borrow_in at access x r region body stop) around number slot scope scoped homes fits rooms
         good =
         borrow_so (mode_of access) x.name r.name body around number slot scope scoped homes.0 fits rooms
         (λ of. all_do body (around + 1) (number + 1) (slot + 1) (variable r.name number slot of ∷ scope)
-        (scoped_more number slot scope scoped homes.0 r.name of) homes.1 (omega (arith, fits)) rooms good)
+        (scoped_more by number slot scope scoped homes.0 r.name of) homes.1 (omega (arith, fits)) rooms good)
     statement_does (borrow_typed at r t mode x body stop) around number slot scope scoped homes fits rooms good =
         borrow_so mode x.name r.name body around number slot scope scoped homes.0 fits rooms
         (λ of. all_do body (around + 1) (number + 1) (slot + 1) (variable r.name number slot of ∷ scope)
-        (scoped_more number slot scope scoped homes.0 r.name of) homes.1 (omega (arith, fits)) rooms good)
+        (scoped_more by number slot scope scoped homes.0 r.name of) homes.1 (omega (arith, fits)) rooms good)
     statement_does (discard at e) around number slot scope scoped homes fits rooms good =
         discard_does by f get placed depth (resting wide around) most scope
         (nothing_so around number slot scope scoped (number + 0) (slot + 0) (omega arith) (omega arith))
@@ -812,7 +731,7 @@ module _ {T C : Type 0} (by : Coding) (see : View ℕ T C) (invoke : ℕ → Lis
         (λ new scoped2. all_do body around (number + length binds) (slot + length (fields_of_case see note
         name.name)) (new ++ scope) scoped2 homes.1 (omega (arith, fits)) (omega (arith, rooms)) good.1)
         p q stands tag vs n l s names slots c ag le lead
-        (λ p2 q2 stands2 lead2. arms_do rest around (number + own) slot scope note (more_numbers number slot
+        (λ p2 q2 stands2 lead2. arms_do rest around (number + own) slot scope note (more_numbers by number slot
         (number + own) scope (omega arith) scoped) homes.2 (omega (arith, fits)) (omega (arith, rooms)) good.2
         p2 q2 stands2 tag vs n l s names slots c ag le lead2)
 
@@ -839,7 +758,7 @@ module _ {T C : Type 0} (by : Coding) (see : View ℕ T C) (invoke : ℕ → Lis
         (whole_so around number slot scope scoped e)
         (emptying_does (out.block_returns body) around number slot scope body scoped (all_do body around number
         slot scope scoped homes.0 (omega (arith, fits)) (omega (arith, rooms)) good.0))
-        (tests_do rest around number2 slot scope o m last (more_numbers number slot number2 scope (omega
+        (tests_do rest around number2 slot scope o m last (more_numbers by number slot number2 scope (omega
         arith) scoped) homes.1 (omega (arith, fits)) (omega (arith, rooms)) good.1 other))
 
   -- a block, at the end of which its names are emptied

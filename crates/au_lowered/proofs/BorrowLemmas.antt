@@ -99,7 +99,11 @@ module _ (by : Coding) (f : Frame by) (get : ℕ → Option Draft) (placed : Pla
             let y = put.slots_after in
             let d = put.after in
             let world_is : record w { store = (world by f x d).store } ≡ world by f x d =
-            ap₂ (λ lent (out : List ℕ × List ℕ). record (world by f x d) { borrows = lent ++ f.lent; output = out.0; left = out.1 })
+            ap₂ (λ lent (out : List ℕ × List ℕ). record (world by f x d) {
+              borrows = lent ++ f.lent;
+              output = out.0;
+              left = out.1;
+            })
             (sym put.same_lent) (ap₂ (λ a b. (a, b)) (sym put.same_output) (sym put.same_left)) in
             let there : reached s (act by.code i s.machine) ≡ at (spot by f q [] y d) =
             ap (λ nx. reached s nx) e

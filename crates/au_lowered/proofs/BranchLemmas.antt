@@ -20,7 +20,8 @@ use Rattle.au_lowered.proofs.MoveLemmas.{jump_reach, choose_by, choose_runs}
 use Rattle.au_lowered.specs.Premises.{Placed}
 use Rattle.au_lowered.specs.Rows.{value_aim, Gives}
 
-module _ (by : Coding) (f : Frame by) (get : ℕ → Option Draft) (placed : Placed by f.function get) (depth : ℕ) (wide : Wide) (room : ℕ) (scope : List (Entry by)) where
+module _ (by : Coding) (f : Frame by) (get : ℕ → Option Draft) (placed : Placed by f.function get)
+    (depth : ℕ) (wide : Wide) (room : ℕ) (scope : List (Entry by)) where
   parts : PartsStandIn get
   parts = parts_stand get
 

@@ -80,7 +80,8 @@ counted_tag tag (Some other) place rest h = (by_same (other == tag) refl, omega 
     by_same false e = e
     by_same true e = let same = eqb-true other tag e in absurd (omega (arith, h, same))
 
-module _ (by : Coding) (f : Frame by) (get : ℕ → Option Draft) (placed : Placed by f.function get) (depth : ℕ) (wide : Wide) (room : ℕ) where
+module _ (by : Coding) (f : Frame by) (get : ℕ → Option Draft) (placed : Placed by f.function get)
+    (depth : ℕ) (wide : Wide) (room : ℕ) where
   -- a jump behind an arm, unless the arm needs none
   pub arm_ends : {s : Spot} {n : ℕ} {T C : Type 0} (see : View ℕ T C) (around slot : ℕ) (slots : Scope)
       (note : T) (rest : Arms Bytes T C) (out : Bool) (m next q : ℕ) (scope : List (Entry by)) (r : Out

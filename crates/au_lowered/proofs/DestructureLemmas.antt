@@ -48,7 +48,8 @@ takes_counted number binds fields value =
     (ticks.◌>>◌ (where_true (parts.0 == 0) (meaning.binds_fields number binds fields parts.1)) (pure
     meaning.falls))
 
-module _ (by : Coding) (f : Frame by) (get : ℕ → Option Draft) (placed : Placed by f.function get) (depth : ℕ) (wide : Wide) (room : ℕ) where
+module _ (by : Coding) (f : Frame by) (get : ℕ → Option Draft) (placed : Placed by f.function get)
+    (depth : ℕ) (wide : Wide) (room : ℕ) where
   module _ (number slot : ℕ) (scope : List (Entry by)) (scoped : Scoped by number slot scope) (binds : List
       (Bound Bytes)) (once : Once (fields_bound binds)) (fits : number + length binds ≤ wide.count) where
     -- what holds behind it
@@ -92,7 +93,8 @@ module _ (by : Coding) (f : Frame by) (get : ℕ → Option Draft) (placed : Pla
         let slots2 = all_filled slot (all_ran by vs) slots in
         let c2 = consumed by f birth c in
         let there : reached s (act by.code (instr.Take slot) s.machine) ≡ at (spot by f q [] slots2 c2) =
-        ap (λ nx. reached s nx) (taken_low by f tag birth parts slot p slots c low.takes_record (level_of by f names slots ag.rest)
+        ap (λ nx. reached s nx) (taken_low by f tag birth parts slot p slots c low.takes_record (level_of by f names
+        slots ag.rest)
         (omega (arith, rooms, many, ag.slots_are)))
         ∙ ap (λ b. reached s (machines.where_true b (machines.goes (machine by f (p + 1) [] slots2 c2)))) t
         ∙ ap (λ n. at (spot by f n [] slots2 c2)) (sym next) in
@@ -141,7 +143,8 @@ module _ (by : Coding) (f : Frame by) (get : ℕ → Option Draft) (placed : Pla
     taken_runs fields rooms homes (values.root id) p q l names slots c here next ag = record { follows = tt }
 
     pub destructure_does : {w : Written} {m : Action Value} (fields : Option (List Field))
-        → slot + length (known fields) ≤ room → BindsHomed by.slot (known fields) number slot binds → Whole by f get depth wide room scope w m
+        → slot + length (known fields) ≤ room → BindsHomed by.slot (known fields) number slot binds
+        → Whole by f get depth wide room scope w m
         → Does by f get depth wide room scope (w >> does (instr.Take slot)) (m >>= λ v. tick (takes_counted
         number binds fields v)) (Taken_so fields)
     destructure_does fields rooms homes a =

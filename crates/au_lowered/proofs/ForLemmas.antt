@@ -56,7 +56,8 @@ number_is (values.buffer id) kind z e = absurd (grind arith)
 number_is (values.terminal id) kind z e = absurd (grind arith)
 number_is (values.root id) kind z e = absurd (grind arith)
 
-module _ (by : Coding) (f : Frame by) (get : ℕ → Option Draft) (placed : Placed by f.function get) (depth : ℕ) (wide : Wide) (room : ℕ) where
+module _ (by : Coding) (f : Frame by) (get : ℕ → Option Draft) (placed : Placed by f.function get)
+    (depth : ℕ) (wide : Wide) (room : ℕ) where
   parts : PartsStandIn get
   parts = parts_stand get
 
@@ -73,6 +74,44 @@ module _ (by : Coding) (f : Frame by) (get : ℕ → Option Draft) (placed : Pla
   abbrev pub loop_scope : ℕ → IntKind → IntKind → ℤ → ℤ → List (Entry by) → List (Entry by)
   loop_scope slot kind kind2 z last scope = kept (slot + 1) (values.number kind2 last) ∷ kept slot
       (values.number kind z) ∷ scope
+
+  -- the scope in a turn
+  pub scoped_loop : (number slot : ℕ) (scope : List (Entry by)) → Scoped by number slot scope
+      → by.slot number ≡ slot + 2
+      → (name : Bytes) (of : Option ClosedType) (kind kind2 : IntKind) (z last : ℤ)
+      → Scoped by (number + 1) (slot + 3) (variable name number (slot + 2) of ∷ loop_scope slot kind kind2 z last scope)
+  scoped_loop number slot scope scoped home name of kind kind2 z last =
+      let u = scoped.under in
+      record {
+        distinct = (
+          number_free by number slot number scope u (omega arith),
+          (
+            (λ e. absurd (omega (arith, e))),
+            (
+              (λ e. absurd (omega (arith, e))),
+              slot_free by number slot
+                  (slot + 2) scope u (omega arith),
+            ),
+          ),
+          home,
+          (
+            ((λ e. absurd (omega (arith, e))), slot_free by number slot (slot + 1) scope u (omega arith)),
+            (slot_free by number slot slot scope u (omega arith), scoped.distinct),
+          ),
+        );
+        under = (
+          omega arith,
+          omega arith,
+          (
+            omega arith,
+            (
+              omega arith,
+              under_more by number slot (number +
+                  1) (slot + 3) scope (omega arith) (omega arith) u,
+            ),
+          ),
+        );
+      }
 
   numbers_there : (slot p : ℕ) (ops : List (Both by)) (kind kind2 : IntKind) (z last : ℤ) (scope : List
       (Entry by)) (names : Names) (slots : Slots) (c : Common by) (go : IntKind → ℤ → ℤ → Next)

@@ -19,6 +19,7 @@ pub mod RoomLemmas
 pub mod FunctionLemmas
 pub mod ForLemmas
 pub mod PlacedLemmas
+pub mod HomeLemmas
 pub mod TopLemmas
 pub mod RunLemmas
 pub mod TakeLemmas
@@ -37,9 +38,11 @@ pub mod LeadLemmas
 pub mod SimLemmas
 pub mod FrameLemmas
 pub mod LevelLemmas
+pub mod ScopeLemmas
 pub mod StepLemmas
 pub mod MoveLemmas
 pub mod CloseLemmas
 pub mod PlaceLemmas
 pub mod ReferenceLemmas
+pub mod ToldLemmas
 pub mod CallLemmas

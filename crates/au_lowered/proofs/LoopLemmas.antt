@@ -23,7 +23,8 @@ use Rattle.au_lowered.specs.Premises.{Placed}
 use Rattle.au_lowered.specs.Flows.{falls, flow_aim, Behind, Does, Whole}
 use Rattle.au_lowered.proofs.FlowLemmas.{flow_holds, then_runs, jump_runs}
 
-module _ (by : Coding) (f : Frame by) (get : ℕ → Option Draft) (placed : Placed by f.function get) (depth : ℕ) (wide : Wide) (room : ℕ) where
+module _ (by : Coding) (f : Frame by) (get : ℕ → Option Draft) (placed : Placed by f.function get)
+    (depth : ℕ) (wide : Wide) (room : ℕ) where
   parts : PartsStandIn get
   parts = parts_stand get
 

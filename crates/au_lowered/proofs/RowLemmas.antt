@@ -37,7 +37,8 @@ use Rattle.au_lowered.specs.Premises.{HasLiteral, numbered, Placed}
 use Rattle.au_lowered.specs.Rows.{value_aim, Gives, OnOne, OnTwo}
 use Rattle.au_lowered.proofs.LevelLemmas.{level_of, agree_put}
 
-module _ (by : Coding) (f : Frame by) (get : ℕ → Option Draft) (placed : Placed by f.function get) (depth : ℕ) (wide : Wide) (room : ℕ) (scope : List (Entry by)) where
+module _ (by : Coding) (f : Frame by) (get : ℕ → Option Draft) (placed : Placed by f.function get)
+    (depth : ℕ) (wide : Wide) (room : ℕ) (scope : List (Entry by)) where
   parts : PartsStandIn get
   parts = parts_stand get
 

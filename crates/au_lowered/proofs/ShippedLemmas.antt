@@ -280,7 +280,8 @@ module _ (by : Coding) (f : Frame by) (Holds : Names → Slots → Type 0) where
       let r = shipped (λ (w : Word by). w.bytes) call None c.store (a ∷ []) in
       let meant_is = good.natural (as_meant by) (λ (t : ClosedType). t) (names.below ++ names.own ∷ [])
       (λ text. text) (λ (w : Word by). w.bytes) (λ w. refl) c.store a in
-      let ran_is = good.natural (as_ran by) by.of (slots.below ++ slots.own ∷ []) (text_bytes by.code) (λ (w : Word by). w.bytes) (λ w. w.known) c.store a in
+      let ran_is = good.natural (as_ran by) by.of (slots.below ++ slots.own ∷ []) (text_bytes by.code)
+      (λ (w : Word by). w.bytes) (λ w. w.known) c.store a in
       let m = machine by f p ops slots c in
       subst (λ x. Pushes by f Holds q ops 6 (spot by f p (reverse vs ++ ops) slots c) (suc l) (acts.told
       (meant by a ∷ []) x (world by f names c) l)) (sym meant_is)

@@ -33,7 +33,8 @@ use Rattle.au_lowered.specs.Flows.{falls, returns, flow_aim, Behind, After, Does
 use Rattle.au_lowered.proofs.FlowLemmas.{return_reach}
 use Rattle.au_lowered.proofs.LevelLemmas.{level_of, agree_put, agree_new}
 
-module _ (by : Coding) (f : Frame by) (get : ℕ → Option Draft) (placed : Placed by f.function get) (depth : ℕ) (wide : Wide) (room : ℕ) where
+module _ (by : Coding) (f : Frame by) (get : ℕ → Option Draft) (placed : Placed by f.function get)
+    (depth : ℕ) (wide : Wide) (room : ℕ) where
   parts : PartsStandIn get
   parts = parts_stand get
 

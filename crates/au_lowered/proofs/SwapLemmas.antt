@@ -1,6 +1,6 @@
 -- `swap`: a value goes behind a reference, and what was there is given.
 use Rattle.std.proofs.Common.{◌≡◌, ◌⊎◌, inl, inr, ℕ, suc, ◌+◌, List, [], ◌∷◌, ◌++◌, length, reverse, Option, Some}
-use Rattle.std.proofs.Common.{None, refl, sym, ap, ap₂, subst, ◌∙◌, arith}
+use Rattle.std.proofs.Common.{None, sym, ap, ap₂, subst, ◌∙◌, arith}
 use Rattle.std.specs.Prelude.{option_map}
 use Rattle.au_effects.specs.Answers as answer
 use Rattle.au_effects.specs.Calls.{given, shipped, swap_call}
@@ -26,7 +26,8 @@ use Rattle.au_lowered.proofs.ReferenceLemmas.{slotted, meant_reference, ran_refe
 use Rattle.au_lowered.proofs.SimLemmas.{sim_spare, sim_stuck}
 use Rattle.au_lowered.proofs.StepLemmas.{Is, push_runs}
 
-module _ (by : Coding) (f : Frame by) (get : ℕ → Option Draft) (depth : ℕ) (wide : Wide) (room : ℕ) (scope : List
+module _ (by : Coding) (f : Frame by) (get : ℕ → Option Draft)
+    (depth : ℕ) (wide : Wide) (room : ℕ) (scope : List
     (Entry by)) (distinct : Distinct by scope) where
   -- what the machine does with two arguments
   swapped_low : (order : List ℕ) (p : ℕ) (vs ops : List (Both by)) (a new : Both by) (slots : Slots) (c : Common by)

@@ -4,7 +4,8 @@ use Rattle.std.proofs.Common.{length, reverse, take, drop, Option, Some, None, s
 use Rattle.std.proofs.Common.{int_lt}
 use Rattle.au_base.specs.declared.kinds.IntKind.{IntKind}
 use Rattle.au_ints.specs.Ranges.{is_of_kind}
-use Rattle.au_effects.specs.Values.{Place, name_of, content_of, number, made, listed}
+use Rattle.au_effects.specs.Values.{Place, name_of, content_of, number, made, reference, listed}
+use Rattle.au_effects.specs.Cases.{case_behind}
 use Rattle.au_effects.specs.Parts.{along, part, with_part}
 use Rattle.au_effects.specs.Worlds.{Deed, tells, bears, spends, closes, closed, used, opened, nothing}
 use Rattle.au_effects.specs.Places.{at, base_at, base_set, set_over}
@@ -29,6 +30,7 @@ use Rattle.au_low.specs.Machines.{Low, LowWorld, Machine, Waiting, Next, goes, w
 use Rattle.au_low.specs.Machines.{stuck, having, where_true, onward, in_world, popping, popping_two}
 use Rattle.au_low.specs.Machines.{popping_all, in_slot, has_slot, slot_set, slots_filled, ordered, ordered_if}
 use Rattle.au_low.specs.Machines.{begins, frame_ended, pushes}
+use Rattle.au_low.specs.Instructions as low
 use Rattle.au_low.specs.Instructions.{act, instructions, jumps, jumps_unless, comes, stores, puts, slot_part}
 use Rattle.au_low.specs.Instructions.{reference_in_slot, pushes_behind, both_numbers, slot_numbers}
 use Rattle.au_low.specs.Instructions.{makes, apart, calls, answered, text_bytes, is_type, new_reference}
@@ -222,6 +224,37 @@ module _ (deeds : List (Deed ℕ)) where
       tag)
   tells_apart other slot m f so h = tt
 
+  -- what is told apart behind a reference, by the parts, and by what stands there
+  behind_parts : (one : ℕ × Place) (slot : ℕ) (m : Machine) (f : ℕ → Machine → Next) → Begins deeds m.world.deeds
+      → ((tag : ℕ) (k : Machine) → Begins deeds k.world.deeds → Tells deeds (f tag k))
+      → (parts : Option (ℕ × List Low))
+      → Tells deeds (having (along {B = (ℕ × List Low) × LowWorld} parts (λ parts. Some (
+        parts,
+        tells (used one.0) m.world,
+      ))) (λ told. having (slots_filled slot told.0.1 (in_world told.1 m)) (f told.0.0)))
+  behind_parts one slot m f so h None = tt
+  behind_parts one slot m f so h (Some parts) =
+      tells_filled slot parts.1 (in_world (tells (used one.0) m.world) m) (f parts.0)
+      (begins_trans deeds m.world.deeds (tells (used one.0) m.world).deeds so (begins_told (used one.0) m.world))
+      (h parts.0)
+
+  behind_held : (one : ℕ × Place) (slot : ℕ) (m : Machine) (f : ℕ → Machine → Next) → Begins deeds m.world.deeds
+      → ((tag : ℕ) (k : Machine) → Begins deeds k.world.deeds → Tells deeds (f tag k)) → (held : Option Low)
+      → Tells deeds (having (along {B = (ℕ × List Low) × LowWorld} (along {B = Low × LowWorld} held (λ value. Some (
+        value,
+        tells (used one.0) m.world,
+      ))) (λ pair. along {B = (ℕ × List Low) × LowWorld} (case_behind one pair.0) (λ parts. Some (parts, pair.1)))) (λ
+      told. having (slots_filled slot told.0.1 (in_world told.1 m)) (f told.0.0)))
+  behind_held one slot m f so h None = tt
+  behind_held one slot m f so h (Some value) = behind_parts one slot m f so h (case_behind one value)
+
+  tells_case : (value : Low) (slot : ℕ) (m : Machine) (f : ℕ → Machine → Next) → Begins deeds m.world.deeds
+      → ((tag : ℕ) (k : Machine) → Begins deeds k.world.deeds → Tells deeds (f tag k))
+      → Tells deeds (low.tells_apart value slot m f)
+  tells_case (made tag birth fields) slot m f so h = tells_apart (made tag birth fields) slot m f so h
+  tells_case (reference borrow place) slot m f so h = behind_held (borrow, place) slot m f so h (at place m.world)
+  tells_case other slot m f so h = tt
+
 opened_told : (m : Machine) → Begins m.world.deeds (borrowed m).world.deeds
 opened_told m = begins_told (opened m.world.borrows) (record m.world { borrows = m.world.borrows + 1 })
 
@@ -279,7 +312,7 @@ act_tells code (Make of tag order home) m =
 act_tells code (Take slot) m = tells_popping m.world.deeds m.operands m _ (λ value rest. tells_apart
     m.world.deeds value slot (record m { operands = rest }) takes_record (begins_refl m.world.deeds)
     (λ tag k so. tells_where m.world.deeds (tag == 0) _ so))
-act_tells code (Case slot labels) m = tells_popping m.world.deeds m.operands m _ (λ value rest. tells_apart
+act_tells code (Case slot labels) m = tells_popping m.world.deeds m.operands m _ (λ value rest. tells_case
     m.world.deeds value slot (record m { operands = rest }) (goes_to_case code labels) (begins_refl
     m.world.deeds)
     (λ tag k so. tells_having m.world.deeds (slice_get labels tag) _ (λ label. tells_jumps m.world.deeds k

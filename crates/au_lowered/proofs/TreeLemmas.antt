@@ -28,7 +28,7 @@ use Rattle.au_lowered.specs.Expressions.{code, code_of_all, code_of_named, whole
 use Rattle.au_lowered.specs.Expressions.{taken, looked_at, operand, borrows, ships_call, acts, calls, mention}
 use Rattle.au_lowered.specs.Expressions.{part_of, part_behind, joins}
 use Rattle.au_lowered.specs.Laws.{Fits}
-use Rattle.au_lowered.specs.Slots.{tag_in}
+use Rattle.au_meaning.specs.Statements.{tag_told}
 use Rattle.au_lowered.specs.Statements.{lends, is_last, statement, block, tests_of, arms_of}
 use Rattle.au_lowered.proofs.FitLemmas.{fits_both, fits_nothing, fits_one, fits_given, fits_when, fits_either}
 use Rattle.au_lowered.proofs.FitLemmas.{fits_loop, fits_turns, ArmsFit, arms_end, arms_fit, fits_cases}
@@ -289,5 +289,5 @@ module _ {T C : Type 0} (see : View ℕ T C) where
         → ArmsFit 0 (arms_of see around slot scope note all)
     fits_arms around slot scope note no_arms = arms_end
     fits_arms around slot scope note (arms at name binds body rest) =
-        arms_fit (block_returns body || is_last rest) (tag_in see note name.name) (fits_block around _ _ body)
+        arms_fit (block_returns body || is_last rest) (tag_told see note name.name) (fits_block around _ _ body)
         (fits_arms around slot scope note rest)

@@ -50,7 +50,8 @@ module _ (by : Coding) (f : Frame by) (get : ℕ → Option Draft) (depth : ℕ)
   abbrev pub Behind : Bool → List (Entry by) → Names → Slots → Type 0
   Behind out scope names slots = (out ≡ false) × Agree by f wide room scope names slots
 
-  -- What holds behind the statements of a block: what names from one on up to another hold goes with the block.
+  -- What holds behind the statements of a block: what names from one on up to another hold goes with the
+  -- block.
   pub record Ended (first top : ℕ) (scope : List (Entry by)) (names : Names) (slots : Slots) : Type 0 where
     pub names_are : length names.own ≡ wide.count
     pub slots_are : length slots.own ≡ room

@@ -7,8 +7,8 @@ use Rattle.au_lowered.specs.Scopes.{Entry, Level, Levels, Held, Only}
 use Rattle.au_lowered.specs.Sides.{Coding, Named, Slotted, Names, Slots, Both, Common, Spot, all_ran, source}
 use Rattle.au_lowered.specs.Sides.{lower}
 
--- A frame that runs: its function, the frames that wait for it, what is in scope in each, and the borrows that
--- they have open, the newest first.
+-- A frame that runs: its function, the frames that wait for it, what is in scope in each, and the borrows
+-- that they have open, the newest first.
 pub record Frame (by : Coding) : Type 0 where
   pub function : ℕ
   pub waiting : List Waiting

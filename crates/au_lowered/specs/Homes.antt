@@ -7,9 +7,9 @@ use Rattle.au_meaning.specs.Names.{names_in, names_in_block, names_in_tests, fie
 use Rattle.au_meaning.specs.Views.{Field, Function, View}
 use Rattle.au_syntax.specs.Plain.{Bytes}
 use Rattle.au_syntax.specs.Statements.{Statement, Statements, Branches, Arms, declare, destructure}
-use Rattle.au_syntax.specs.Statements.{conditional, conditional_else, case_of, while_loop, for_loop, borrow_in}
-use Rattle.au_syntax.specs.Statements.{borrow_typed, no_statements, statements, no_branches, branches, no_arms}
-use Rattle.au_syntax.specs.Statements.{arms}
+use Rattle.au_syntax.specs.Statements.{conditional, conditional_else, case_of, while_loop, for_loop}
+use Rattle.au_syntax.specs.Statements.{borrow_in, borrow_typed, no_statements, statements, no_branches}
+use Rattle.au_syntax.specs.Statements.{branches, no_arms, arms}
 use Rattle.au_syntax.specs.Types.{Bound}
 use Rattle.au_lowered.specs.Slots.{fields_in, fields_of_case, kept}
 
@@ -18,7 +18,8 @@ module _ (slot_of : ℕ → ℕ) where
   -- parameters, of which the first has this number and this slot
   abbrev pub ParametersHomed : ℕ → ℕ → List Field → Type 0
   ParametersHomed number slot [] = Unit {0}
-  ParametersHomed number slot (p ∷ rest) = (slot_of number ≡ slot) × ParametersHomed (number + 1) (slot + 1) rest
+  ParametersHomed number slot (p ∷ rest) =
+      (slot_of number ≡ slot) × ParametersHomed (number + 1) (slot + 1) rest
 
   -- variables that fields are bound to, of which the first has this number, and of the fields the first has
   -- this slot
@@ -33,7 +34,7 @@ module _ (slot_of : ℕ → ℕ) where
       -- what is declared in a statement, where the next number and the next slot are these
       pub Homed : ℕ → ℕ → Statement Bytes T C → Type 0
       Homed number slot (declare at binding name t e) = slot_of number ≡ slot
-      Homed number slot (destructure at binds e) = BindsHomed (fields_in see (note_of e) 0) number slot binds
+      Homed number slot (destructure at binds e) = BindsHomed (fields_in see (note_of e)) number slot binds
       Homed number slot (conditional at tests) = TestsHomed number slot tests
       Homed number slot (conditional_else at tests block) =
           TestsHomed number slot tests × BlockHomed (number + names_in_tests tests) slot block

@@ -21,6 +21,7 @@ pub mod Maps
 pub mod Sides
 pub mod Frames
 pub mod Homes
+pub mod HomeLists
 pub mod Runs
 pub mod Scopes
 pub mod StepLaws

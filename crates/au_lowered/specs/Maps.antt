@@ -1,7 +1,7 @@
 -- Values, worlds and answers whose texts, places and types are changed into others.
 use Rattle.std.specs.Prelude.{List, map, Option}
-use Rattle.au_effects.specs.Values.{Value, Fields, Place, unit, truth, number, text, made, reference, box, buffer}
-use Rattle.au_effects.specs.Values.{terminal, root, no_fields, field_then}
+use Rattle.au_effects.specs.Values.{Value, Fields, Place, unit, truth, number, text, made, reference, box}
+use Rattle.au_effects.specs.Values.{buffer, terminal, root, no_fields, field_then}
 use Rattle.au_effects.specs.Worlds.{World, Held, Deed, nothing, content, elements, born, consumed, opened}
 use Rattle.au_effects.specs.Worlds.{used, closed}
 use Rattle.au_effects.specs.Answers.{Fault, arithmetic, called, not_empty, empty, out_of_range, Result, value}

@@ -10,7 +10,8 @@ use Rattle.au_lowered.specs.Frames.{Wide, Agree, Frame, spot, world}
 use Rattle.au_lowered.specs.Sides.{Coding, Both, Names, Slots, Common, meant, all_meant}
 use Rattle.au_lowered.specs.Runs.{Aim, aim_at, Sim}
 
-module _ (by : Coding) (f : Frame by) (get : ℕ → Option Draft) (depth : ℕ) (wide : Wide) (room : ℕ) (scope : List (Entry by))
+module _ (by : Coding) (f : Frame by) (get : ℕ → Option Draft)
+    (depth : ℕ) (wide : Wide) (room : ℕ) (scope : List (Entry by))
   where
     -- a value is pushed
     abbrev pub value_aim : ℕ → List (Both by) → Aim by Value (Both by)

@@ -1,6 +1,7 @@
 -- The variables in scope, each with the number that the meaning gives it and the slot that the code gives
 -- it, and what it means that a frame's names and its slots hold the same for them.
-use Rattle.std.specs.Prelude.{◌≡◌, ◌≢◌, ◌⊎◌, ℕ, ◌<◌, ◌≤◌, List, [], ◌∷◌, length, Option, Some, option_map, slice_get}
+use Rattle.std.specs.Prelude.{◌≡◌, ◌≢◌, ◌⊎◌, ℕ, ◌<◌, ◌≤◌, List, [], ◌∷◌, length, Option, Some, option_map}
+use Rattle.std.specs.Prelude.{slice_get}
 use Rattle.au_type_texts.specs.Types.{ClosedType}
 use Rattle.au_meaning.specs.Names.{Scope}
 use Rattle.au_meaning.specs.Worlds.{Value}

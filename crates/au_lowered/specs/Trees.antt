@@ -1,9 +1,9 @@
 -- Trees in which each field is bound once.
 use Rattle.au_syntax.specs.Plain.{Bytes}
 use Rattle.au_syntax.specs.Statements.{Statement, Statements, Branches, Arms, destructure, conditional}
-use Rattle.au_syntax.specs.Statements.{conditional_else, case_of, while_loop, for_loop, borrow_in, borrow_typed}
-use Rattle.au_syntax.specs.Statements.{no_statements}
-use Rattle.au_syntax.specs.Statements.{statements, no_branches, branches, no_arms, arms}
+use Rattle.au_syntax.specs.Statements.{conditional_else, case_of, while_loop, for_loop, borrow_in}
+use Rattle.au_syntax.specs.Statements.{borrow_typed, no_statements, statements, no_branches, branches}
+use Rattle.au_syntax.specs.Statements.{no_arms, arms}
 use Rattle.au_lowered.specs.Binds.{fields_bound}
 use Rattle.au_lowered.specs.Premises.{Once}
 
