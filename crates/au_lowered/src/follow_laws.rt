@@ -1,7 +1,7 @@
 //! Laws of the definitions, each as the contract of a call that does nothing.
 
 ghost use Rattle.au_lowered.specs.FollowLaws.{CutsLieBetween, EndingsMeet, ExpressionsRun, RunsFollow};
-ghost use Rattle.au_lowered.specs.HomeLists.{HomesAreFound};
+ghost use Rattle.au_lowered.specs.HomeLists.{HomesAreFound, HomesAreSame};
 ghost use Rattle.au_lowered.specs.Witness.{SomeProgramIsGood};
 
 /// The code of an expression does what the expression means.
@@ -29,6 +29,11 @@ pub fn endings_meet<T, C>()
 /// of all declarations of a program.
 pub fn homes_are_found<I, T, C>()
     ensures { HomesAreFound I T C }
+{}
+
+/// Where what is taken apart has fields of the same names, a block has the same slots.
+pub fn homes_are_same<T, C>()
+    ensures { HomesAreSame T C }
 {}
 
 /// There is a program of which the other laws speak, and it exits.
