@@ -21,8 +21,8 @@ given_nothing (Some one) go each = each one
 not_acquired : (w : LowWorld) (a : Low) (m : Machine) → stuck ≡ answered (acquire_terminal None w a) m
 not_acquired w a m = sym (ap (λ (one : Answer ℕ ℕ). answered one m)
     (given_nothing (reference_in a) _ (λ one.
-    given_nothing (at one.1 w) _ (λ held.
-    given_nothing (root_in held) _ (λ id. refl)))))
+    given_nothing (at one.1 w) _ (λ held_value.
+    given_nothing (root_in held_value) _ (λ id. refl)))))
 
 -- a call that isn't one of these comes to nothing with one argument
 pub record NoneOfOne (call : ShippedCall) : Type 0 where

@@ -70,7 +70,7 @@ impl State {
         ensures { IfOk result (λ found. option_map place_in found
             ≡ along (reference_in_slot slot (machine_of self.now)) (λ one. Some one.1)) }
     {
-        let Some(cell) = self.held(slot) else {
+        let Some(cell) = self.held_value(slot) else {
             return Ok(None);
         };
         let Some(one) = reference_in(cell) else {

@@ -32,10 +32,10 @@ impl State {
         let Some(one) = reference_in(&cell) else {
             return Ok(Turn::Stuck);
         };
-        let Some(held) = self.world.at(one) else {
+        let Some(held_value) = self.world.at(one) else {
             return Ok(Turn::Stuck);
         };
-        let copy = copy(alloc, held)?;
+        let copy = copy(alloc, held_value)?;
         self.world.tell_use(one.borrow)?;
         self.push(copy)
     }
@@ -49,17 +49,17 @@ impl State {
             (λ one. pushes_behind (reference_along one path.now) (machine_of self.old))) }
         ensures quiet { IsQuiet (came_still result) self.old.world self.new.world }
     {
-        let Some(cell) = self.held(slot) else {
+        let Some(cell) = self.held_value(slot) else {
             return Ok(Turn::Stuck);
         };
         let Some(one) = reference_in(cell) else {
             return Ok(Turn::Stuck);
         };
         let borrow = one.borrow;
-        let Some(held) = self.world.at_behind(one, path) else {
+        let Some(held_value) = self.world.at_behind(one, path) else {
             return Ok(Turn::Stuck);
         };
-        let copy = copy(alloc, held)?;
+        let copy = copy(alloc, held_value)?;
         self.world.tell_use(borrow)?;
         self.push(copy)
     }
@@ -73,7 +73,7 @@ impl State {
             (λ one. pushes (referring (reference_along one path.now)) (machine_of self.old))) }
         ensures quiet { IsQuiet (came_still result) self.old.world self.new.world }
     {
-        let Some(cell) = self.held(slot) else {
+        let Some(cell) = self.held_value(slot) else {
             return Ok(Turn::Stuck);
         };
         let Some(one) = reference_in(cell) else {

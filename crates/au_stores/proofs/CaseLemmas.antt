@@ -31,8 +31,8 @@ told_reference other one w is = absurd cc
 
 -- what is told apart behind it, by what stands there
 abbrev told_of : ℕ × Place → LowWorld → Option Low → Option ((ℕ × List Low) × LowWorld)
-told_of one w held =
-    along (along held (λ value. Some (value, tells (used one.0) w)))
+told_of one w held_value =
+    along (along held_value (λ value. Some (value, tells (used one.0) w)))
     (λ pair. along (case_behind one pair.0) (λ parts. Some (parts, pair.1)))
 
 -- the case of a value, and references to as many fields as it has

@@ -77,10 +77,10 @@ impl World {
         ensures { IfOk result (λ found. option_map (told_by (world_of self.now)) found
             ≡ effect.told_apart (referring (lent one.now)) (world_of self.now)) }
     {
-        let Some(held) = self.at(one) else {
+        let Some(held_value) = self.at(one) else {
             return Ok(None);
         };
-        let Some((tag, count)) = case_of(held) else {
+        let Some((tag, count)) = case_of(held_value) else {
             return Ok(None);
         };
         let fields = fields_behind(alloc, one, count)?;

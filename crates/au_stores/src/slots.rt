@@ -26,12 +26,12 @@ fn item(slots: &[Option<Cell>], slot: usize) -> Option<&Option<Cell>>
 
 /// What a slot of some frame's slots holds.
 #[inline(always)]
-pub(crate) fn held(slots: &[Option<Cell>], slot: u32) -> Option<&Cell>
+pub(crate) fn held_value(slots: &[Option<Cell>], slot: u32) -> Option<&Cell>
     ensures { option_map low (option_copied result)
         ≡ along (slice_get (slots_of slots.now) slot) (λ value. value) }
 {
     match item(slots, slot as usize) {
-        Some(held) => held.as_ref(),
+        Some(held_value) => held_value.as_ref(),
         None => None,
     }
 }
@@ -74,20 +74,20 @@ impl World {
         ensures { option_map low (option_copied result)
             ≡ name_at (top_frame self.now) slot (world_of self.now) }
     {
-        held(self.slots.top(), slot)
+        held_value(self.slots.top(), slot)
     }
 
     /// Puts a value into a slot of the running frame, or empties it.
     #[inline(always)]
-    pub fn set_slot(&mut self, slot: u32, held: Option<Cell>) -> Option<Cell>
+    pub fn set_slot(&mut self, slot: u32, held_value: Option<Cell>) -> Option<Cell>
         requires { slot < length self.old.slots.0 }
         ensures world { world_of self.new
-            ≡ name_set (top_frame self.old) slot (option_map low held) (world_of self.old) }
+            ≡ name_set (top_frame self.old) slot (option_map low held_value) (world_of self.old) }
         ensures old { option_map low result ≡ name_at (top_frame self.old) slot (world_of self.old) }
         ensures frame { top_frame self.new ≡ top_frame self.old }
         ensures slots { length self.new.slots.0 ≡ length self.old.slots.0 }
     {
-        self.slots.put(slot as usize, held)
+        self.slots.put(slot as usize, held_value)
     }
 
     /// The part of a slot of the running frame.
