@@ -206,14 +206,14 @@ module _ {I J T C U D : Type 0} (known : ClosedType → Bool) (change : Change B
                 (λ j. with_name name.name (p j) (type_same known change one two agree first j) (s j)) i)) a b)
       run_same {scope = scope} (borrow_in at access x r region block stop) ok p h s =
           let counts = reference_counts known change one two agree (mode_of access) (variable_of scope x.name)
-              (variable_counts known scope h x.name) in
+          (variable_counts known scope h x.name) in
           λ i. lending (binds_borrow (p i) (mode_of access) (variable_of (s i) x.name))
           (within (p i) (1 + names_same_block change block i)
           (all_same block ok (λ j. p j + 1) (counts, h)
           (λ j. with_reference (mode_of access) (variable_of (s j) x.name) (p j) r.name (s j)) i))
       run_same {scope = scope} (borrow_typed at r t mode x block stop) ok p h s =
           let counts = reference_counts known change one two agree mode (variable_of scope x.name)
-              (variable_counts known scope h x.name) in
+          (variable_counts known scope h x.name) in
           λ i. lending (binds_borrow (p i) mode (variable_of (s i) x.name))
           (within (p i) (1 + names_same_block change block i)
           (all_same block ok (λ j. p j + 1) (counts, h)
