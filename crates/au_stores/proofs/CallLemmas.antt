@@ -10,7 +10,9 @@ use Rattle.au_shipped.specs.declared.prims.AbortKind.TheVariants as kind
 use Rattle.au_effects.specs.Values.{Place, unit, number, terminal}
 use Rattle.au_effects.specs.Parts.{along}
 use Rattle.au_effects.specs.Worlds as effect
-use Rattle.au_effects.specs.Places.{at}
+use Rattle.au_effects.specs.Places.{at, exchanged}
+use Rattle.au_effects.specs.References.{reference_in, put_behind}
+use Rattle.au_effects.proofs.PlaceLemmas.{pair_told, exchanged_told}
 use Rattle.au_effects.specs.Answers as answer
 use Rattle.au_effects.specs.Calls as call
 use Rattle.au_low.specs.Machines.{Low, LowWorld}
@@ -48,7 +50,37 @@ module _ {A : Type 0} (form : Low → Option A) (w : LowWorld) (go : ℕ → A �
 
   pub use_is : (value : Low) → call.given (reached_by form value w) (λ one. go one.0 one.1)
       ≡ call.use_of value w (λ borrow place held_value. call.given (form held_value) (go borrow))
-  use_is value = reached_lent (call.reference_in value)
+  use_is value = reached_lent (reference_in value)
+
+-- a value goes into the place of a reference, and what was there comes out
+module _ (value new : Low) (w : LowWorld) (one : ℕ × Place) (is : Some one ≡ reference_in value) where
+  swapped_by : Option (Low × LowWorld) → Comes
+  swapped_by found = call.given found (λ pair. answer.gives pair.0 pair.1)
+
+  swap_is : swapped_by (option_map (pair_told (effect.used one.0)) (exchanged one.1 new w))
+      ≡ call.swap_call w value new
+  unfolding swapped_by
+  swap_is =
+      ap swapped_by (sym (exchanged_told one.1 new (effect.used one.0) w))
+      ∙ ap (λ (found : Option (ℕ × Place)). call.given found
+      (λ one. swapped_by (put_behind one new w))) is
+
+  pub swapped_none : None ≡ exchanged one.1 new w → answer.none ≡ call.swap_call w value new
+  unfolding swapped_by
+  swapped_none none =
+      ap (λ (found : Option (Low × LowWorld)). swapped_by (option_map (pair_told (effect.used one.0)) found))
+      none
+      ∙ swap_is
+
+  pub swapped : (old : Low) (mid after : LowWorld) → Some (old, mid) ≡ exchanged one.1 new w
+      → after ≡ effect.tells (effect.used one.0) mid
+      → answer.gives old after ≡ call.swap_call w value new
+  unfolding swapped_by
+  swapped old mid after there told =
+      ap (answer.gives old) told
+      ∙ ap (λ (found : Option (Low × LowWorld)). swapped_by (option_map (pair_told (effect.used one.0)) found))
+      there
+      ∙ swap_is
 
 -- a use of a buffer, and what it comes to
 module _ (value : Low) (w : LowWorld) (go : ℕ → List Low → LowWorld → Comes) where

@@ -1,5 +1,5 @@
 -- What a `case` tells apart: a value itself, or one behind a reference.
-use Rattle.std.proofs.Common.{◌≡◌, ℕ, zero, suc, ◌+◌, List, [], ◌∷◌, ◌++◌, length, Option, Some, None, refl}
+use Rattle.std.proofs.Common.{◌≡◌, ℕ, zero, suc, ◌+◌, List, [], ◌∷◌, ◌++◌, Option, Some, None, refl}
 use Rattle.std.proofs.Common.{sym, ap, ◌∙◌, arith}
 use Rattle.std.specs.Option.{option_map}
 use Rattle.au_effects.specs.Values.{Place, made, reference}
@@ -69,13 +69,23 @@ behind_made one w value tag count fields there found are =
     ∙ ap (told_of one w) there
 
 -- one more field
-pub fields_more : (one : ℕ × Place) (number count : ℕ)
-    → fields_behind one number (count + 1)
+fields_more : (one : ℕ × Place) (number count : ℕ)
+    → fields_behind one number (suc count)
     ≡ fields_behind one number count ++ referring (reference_along one (number + count ∷ [])) ∷ []
-fields_more one number zero = let e : number ≡ number + zero = omega arith in
-    ap (λ n. referring (reference_along one (n ∷ [])) ∷ []) e
+fields_more one number zero =
+    let same : number ≡ number + zero = omega arith in
+    ap (λ n. referring (reference_along one (n ∷ [])) ∷ []) same
 fields_more one number (suc count) =
-    let e : number + 1 + count ≡ number + suc count = omega arith in
+    let same : number + 1 + count ≡ number + suc count = omega arith in
     ap (λ (rest : List Low). referring (reference_along one (number ∷ [])) ∷ rest)
     (fields_more one (number + 1) count
-    ∙ ap (λ n. fields_behind one (number + 1) count ++ referring (reference_along one (n ∷ [])) ∷ []) e)
+    ∙ ap (λ n. fields_behind one (number + 1) count ++ referring (reference_along one (n ∷ [])) ∷ []) same)
+
+pub fields_next : (one : ℕ × Place) (count : ℕ)
+    → fields_behind one 0 (count + 1)
+    ≡ fields_behind one 0 count ++ referring (reference_along one (count ∷ [])) ∷ []
+fields_next one count =
+    let next : count + 1 ≡ suc count = omega arith in
+    let same : 0 + count ≡ count = omega arith in
+    ap (fields_behind one 0) next ∙ fields_more one 0 count
+    ∙ ap (λ n. fields_behind one 0 count ++ referring (reference_along one (n ∷ [])) ∷ []) same

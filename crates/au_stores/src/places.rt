@@ -155,7 +155,8 @@ impl World {
         if frame == depth {
             return self.set_slot(slot, held_value);
         }
-        self.slots.put_below(depth - 1 - frame, slot as usize, held_value)
+        self.slots
+            .put_below(depth - 1 - frame, slot as usize, held_value)
     }
 
     fn exchange_in_slot(&mut self, frame: usize, slot: u32, path: &[u32], new: Cell) -> Option<Cell>

@@ -128,12 +128,7 @@ impl World {
     /// # Errors
     ///
     /// `Memory` when memory runs out.
-    pub fn take_apart(
-        &mut self,
-        slot: u32,
-        how: Taken,
-        fields: Vec<Cell>,
-    ) -> Result<bool, Memory>
+    pub fn take_apart(&mut self, slot: u32, how: Taken, fields: Vec<Cell>) -> Result<bool, Memory>
         ensures world { IfOk result (λ done. done_in done self.new
             ≡ filled (top_frame self.old) slot (lows fields.items) (taken how (world_of self.old))) }
         ensures kept { IfOk result (λ done. IsFalse done → world_of self.new ≡ world_of self.old) }

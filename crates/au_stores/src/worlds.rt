@@ -129,7 +129,13 @@ impl World {
     /// # Errors
     ///
     /// `Memory` when memory runs out.
-    pub fn bear(&mut self, alloc: Global, of: u32, home: &[u8], birth_held: Held) -> Result<u64, Memory>
+    pub fn bear(
+        &mut self,
+        alloc: Global,
+        of: u32,
+        home: &[u8],
+        birth_held: Held,
+    ) -> Result<u64, Memory>
         requires some { 0 < length home.now }
         requires most { length home.now ≤ most_name_bytes }
         ensures id { IfOk result (λ id. id ≡ length self.old.births.items) }
