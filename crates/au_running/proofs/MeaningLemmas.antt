@@ -8,9 +8,9 @@ use Rattle.au_closed_trees.specs.Changes.{Change}
 use Rattle.au_type_texts.specs.Types.{ClosedType}
 use Rattle.au_closed_trees.specs.Renoted.{expression_renoted, expressions_renoted, arguments_renoted}
 use Rattle.au_closed_trees.specs.Renoted.{statement_renoted, block_renoted, branches_renoted, arms_renoted}
-use Rattle.au_meaning.specs.Acts.{begins, new_names}
+use Rattle.au_meaning.specs.Acts.{begins, closing, ends_frame, new_names}
 use Rattle.au_meaning.specs.Expressions.{acts, calls, note_of}
-use Rattle.au_meaning.specs.Meanings.{begun, call_at, enters, first_world, leaves_frame, mean, parameters_of}
+use Rattle.au_meaning.specs.Meanings.{begun, call_at, enters, first_world, mean, parameters_of, returned}
 use Rattle.au_meaning.specs.Meanings.{scope_of, seen}
 use Rattle.au_meaning.specs.Names.{Scope, names_in_block}
 use Rattle.au_meaning.specs.Statements.{run_block}
@@ -249,9 +249,10 @@ module _ {T C : Type 0} where
   enters_same invoke other same depth (Some f) ok =
       λ i args. where_true (length args == length f.parameters) (do
         does (begins (new_names f.first args (names_in_block f.body)))
-        flow ← block_means f.view invoke other same depth (f.first + length args) (scope_of f) f.body
-            (ok f refl) i
-        leaves_frame flow)
+        value ← closing (block_means f.view invoke other same depth (f.first + length args) (scope_of f)
+            f.body (ok f refl) i >>= returned)
+        does ends_frame
+        pure value)
 
   module _ (functions : List (Function ℕ T C)) (ok : EachSuits functions) where
     abbrev all : ℕ → Option (Function ℕ T C)
