@@ -55,6 +55,7 @@ impl World {
     /// # Errors
     ///
     /// `Memory` when memory runs out.
+    #[tactic(auto, using(crate::proofs::CaseLemmas::told_reference, crate::proofs::CaseLemmas::told_made, crate::proofs::CaseLemmas::told_none))]
     pub fn told_apart(&self, alloc: Global, cell: Cell) -> Result<Option<Told>, Memory>
         ensures { IfOk result (λ found. option_map (told_by (world_of self.now)) found
             ≡ effect.told_apart (low cell) (world_of self.now)) }

@@ -1,10 +1,7 @@
-use Rattle.std.proofs.Common.{◌≡◌, ℕ, List, Some, None, Option, ap, sym, ◌∙◌}
-use Rattle.au_effects.specs.Values.{Place}
+use Rattle.std.proofs.Common.{ℕ, List, Option, ap, sym, ◌∙◌}
 use Rattle.au_effects.specs.Places.{exchanged}
-use Rattle.au_low.specs.Machines.{Low, LowWorld}
 use Rattle.au_cells.specs.Cells.{low, lent, base_of}
 use Rattle.au_stores.specs.Stores.{world_of, came_out}
-use Rattle.au_stores.specs.declared.worlds.World.{World}
 use Rattle.au_cells.specs.declared.cells.Cell.{Cell}
 use Rattle.au_stores.proofs.CallLemmas.{swapped, swapped_none}
 use Rattle.au_stores.proofs.worlds.World.swap.Goals as goal
