@@ -1,8 +1,9 @@
 //! The lives of the variables of a block.
 
 ghost use Rattle.std.specs.Prelude.{◌≡◌, ◌++◌, OnOk};
+ghost use Rattle.std.specs.Option.{option_map};
+ghost use Rattle.au_judgements.specs.Said.{reference_said};
 ghost use Rattle.au_typing.specs.InScope as inside;
-ghost use Rattle.au_typing.specs.DerivationSearch as search;
 ghost use Rattle.au_explain.specs.Said.{arms_said, binds_said, block_said, branches_said};
 ghost use Rattle.au_explain.specs.Said.{expression_said, name_said, statement_said, statements_said};
 ghost use Rattle.au_explain.specs.Variables as spec;
@@ -18,9 +19,7 @@ use au_base::{Memory, Name};
 use au_judgements::declaring::{declare_after, declare_bound, declare_fixed};
 use au_judgements::leaving::{enter_reference, leave_reference};
 use au_noting::Scope;
-use au_syntax::{
-    Access, Arm, Block, BorrowMode, BorrowNames, Branch, Expr, Ident, Parsed, Stmt, TypeText,
-};
+use au_syntax::{Access, Arm, Block, BorrowNames, Branch, Expr, Ident, Parsed, Stmt};
 use au_types::Ty;
 use std::alloc::Global;
 
@@ -131,7 +130,8 @@ fn push_inside(
             push_borrow(alloc, scope, block, *access, names, made)
         }
         Stmt::BorrowTyped(_, name, text, mode, of, block, _) => {
-            push_borrow_typed(alloc, scope, block, name, text, *mode, of, made)
+            let found = typed_reference(alloc, scope, text, *mode, of)?;
+            push_typed(alloc, scope, block, name, found, made)
         }
         Stmt::Skip(_) => Ok(()),
         Stmt::Let(_, _, _, _, _) => Ok(()),
@@ -240,25 +240,21 @@ fn push_borrow(
     }
 }
 
-/// Puts the lives of the variables of a borrow statement with a written type.
+/// Puts the lives of the variables of a borrow statement with a written type, by the region and the type that
+/// were found of its reference.
 #[cycle(listing)]
-fn push_borrow_typed(
+fn push_typed(
     alloc: Global,
     scope: &mut Scope,
     block: &Block<Parsed>,
     name: &Ident<Parsed>,
-    text: &TypeText,
-    mode: BorrowMode,
-    of: &Ident<Parsed>,
+    found: Option<(Name, Ty)>,
     made: &mut Vec<VariableLives>,
 ) -> Result<(), Memory>
     ensures put { OnOk result (made.new.items ≡ made.old.items ++ spec.listed_typed (scope_said scope.old)
-        (name_said name.now) (block_said block.now)
-        (spec.told (search.judge_borrow (scope_said scope.old) (written text.now) mode
-        (name_said of.now).name))) }
+        (name_said name.now) (block_said block.now) (option_map reference_said found)) }
     ensures kept { OnOk result (scope_said scope.new ≡ scope_said scope.old) }
 {
-    let found = typed_reference(alloc, scope, text, mode, of)?;
     match found {
         None => Ok(()),
         Some((region, of)) => push_lent(alloc, scope, block, name, &region, of, made),

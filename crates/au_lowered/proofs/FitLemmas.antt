@@ -5,7 +5,7 @@ use Rattle.au_low.specs.declared.instructions.Instr.{Instr}
 use Rattle.au_low.specs.declared.instructions.Instr.TheVariants as instr
 use Rattle.au_meaning.specs.Statements.{is_tag}
 use Rattle.au_lowered.specs.Drafts.{Draft, plain, Written, ◌>>◌, nothing, one, does, given, unless}
-use Rattle.au_lowered.specs.Drafts.{count_unless, when, either, loop}
+use Rattle.au_lowered.specs.Drafts.{count_unless, when, either, looped}
 use Rattle.au_lowered.specs.Laws.{labels_of, EachBefore, LabelsBefore, Fits}
 use Rattle.au_lowered.specs.Statements as lower
 use Rattle.au_lowered.specs.Statements.{ArmsWritten, arm_then, start_of, cases, turns}
@@ -204,7 +204,7 @@ fits_returning {k} {a} {b} fa fb = record {
 -- ---- loops
 
 -- `while`, whose jump goes back to where it begins
-pub fits_loop : (r : Bool) {test body : Written} → Fits 0 test → Fits 0 body → Fits 0 (loop r test body)
+pub fits_loop : (r : Bool) {test body : Written} → Fits 0 test → Fits 0 body → Fits 0 (looped r test body)
 fits_loop r {test} {body} ft fb = record {
   steady = λ p q.
       let of_test = ft.steady p q in
@@ -227,7 +227,7 @@ fits_loop r {test} {body} ft fb = record {
     inside : ℕ → ℕ
     inside p = p + length (test p) + 1
 
-    whole : (p : ℕ) → length (loop r test body p) ≡ length (test p) + length (body (inside p)) + count_unless r + 1
+    whole : (p : ℕ) → length (looped r test body p) ≡ length (test p) + length (body (inside p)) + count_unless r + 1
     whole p =
         let turn = body >> unless r (instr.Jump p) in
         let outer = length_both test (when turn) p in

@@ -3,7 +3,7 @@ use Rattle.std.proofs.Common.{ℕ, zero, suc, ◌+◌, ◌<◌, ◌≤◌, Bool,
 use Rattle.std.proofs.Common.{Option, Some, None, refl, ap, ◌∙◌, arith, unwrap_or}
 use Rattle.au_base.proofs.BoolLemmas.{and_false}
 use Rattle.au_low.specs.declared.instructions.Instr.TheVariants as instr
-use Rattle.au_lowered.specs.Drafts.{Draft, plain, Written, ◌>>◌, nothing, when, either, branch, loop}
+use Rattle.au_lowered.specs.Drafts.{Draft, plain, Written, ◌>>◌, nothing, when, either, branch, looped}
 use Rattle.au_lowered.specs.Standing.{Stands, InLoop, PartsStandIn}
 use Rattle.au_lowered.proofs.StandLemmas.{parts_stand}
 use Rattle.au_meaning.specs.Expressions.{chosen}
@@ -138,7 +138,7 @@ module _ (by : Coding) (f : Frame by) (get : ℕ → Option Draft) (placed : Pla
   pub while_does : {wt wb : Written} {mt : Action Value} {mb : Action Flow} (out : Bool) (scope : List
       (Entry by))
       → Whole by f get depth wide room scope wt mt → Does_so scope wb mb (Behind_so out scope)
-      → Does_so scope (loop out wt wb) (while_turns (suc depth) mt mb) (Behind_so false scope)
+      → Does_so scope (looped out wt wb) (while_turns (suc depth) mt mb) (Behind_so false scope)
   while_does {wt} {wb} {mt} {mb} out scope test body = record {
     runs = λ p q names slots c n stands ag le.
         turns_run out scope test body (suc depth) p q (parts.of_loop out wt wb p q stands) names slots c n

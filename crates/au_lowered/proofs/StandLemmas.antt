@@ -3,7 +3,7 @@ use Rattle.std.proofs.Common.{◌≡◌, ℕ, ◌+◌, Bool, true, false, List, 
 use Rattle.std.proofs.Common.{sym, subst, arith}
 use Rattle.au_low.specs.declared.instructions.Instr.{Instr}
 use Rattle.au_low.specs.declared.instructions.Instr.TheVariants.{Jump, JumpNot, ForTest, ForStep, Look, Store}
-use Rattle.au_lowered.specs.Drafts.{Draft, plain, Written, ◌>>◌, one, does, unless, count_unless, when, either, loop}
+use Rattle.au_lowered.specs.Drafts.{Draft, plain, Written, ◌>>◌, one, does, unless, count_unless, when, either, looped}
 use Rattle.au_lowered.specs.Standing.{HasAt, Stands, ArmsStand, InOne, InRow, InWhen, InBranches, InLoop}
 use Rattle.au_lowered.specs.Standing.{InTurns, InArm, InCases, PartsStand}
 use Rattle.au_lowered.specs.Statements.{ArmsWritten, arm_then, cases, turns}
@@ -75,7 +75,7 @@ module _ (get : ℕ → Option Draft) where
         second = record { has = subst (λ n. HasAt get n (b l)) place behind.1; ends = sym end };
       }
 
-  stands_loop : (r : Bool) (test body : Written) (p q : ℕ) → Stands get (loop r test body) p q
+  stands_loop : (r : Bool) (test body : Written) (p q : ℕ) → Stands get (looped r test body) p q
       → InLoop get r test body p q
   stands_loop r test body p q s =
       let row = stands_row test (when (body >> unless r (Jump p))) p q (record { has = s.has; ends = s.ends }) in

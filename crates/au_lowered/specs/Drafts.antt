@@ -71,5 +71,5 @@ branch returns a None = when a
 branch returns a (Some b) = either returns a b
 
 -- `t: test JUMPNOT(end) block JUMP(t) end:`, without the jump where the block returns on every path
-abbrev pub loop : Bool → Written → Written → Written
-loop returns test block t = (test >> when (block >> unless returns (Jump t))) t
+abbrev pub looped : Bool → Written → Written → Written
+looped returns test block t = (test >> when (block >> unless returns (Jump t))) t

@@ -3,7 +3,7 @@
 use Rattle.std.specs.Prelude.{◌≡◌, ℕ, ◌+◌, Bool, List, [], ◌∷◌, length, Option, Some}
 use Rattle.au_low.specs.declared.instructions.Instr.TheVariants.{Jump, JumpNot, ForTest, ForStep, Look, Store}
 use Rattle.au_low.specs.declared.instructions.Instr.TheVariants.{Case}
-use Rattle.au_lowered.specs.Drafts.{Draft, plain, Written, ◌>>◌, one, unless, when, either, loop}
+use Rattle.au_lowered.specs.Drafts.{Draft, plain, Written, ◌>>◌, one, unless, when, either, looped}
 use Rattle.au_lowered.specs.Statements.{ArmsWritten, arm_then, cases, count_of_cases, labels_of, turns}
 
 -- by what stands at each place
@@ -91,7 +91,7 @@ module _ (get : ℕ → Option Draft) where
     pub of_when : (a : Written) (p q : ℕ) → Stands (when a) p q → InWhen a p q
     pub of_branches : (returns : Bool) (a b : Written) (p q : ℕ) → Stands (either returns a b) p q
         → InBranches returns a b p q
-    pub of_loop : (returns : Bool) (test body : Written) (p q : ℕ) → Stands (loop returns test body) p q
+    pub of_loop : (returns : Bool) (test body : Written) (p q : ℕ) → Stands (looped returns test body) p q
         → InLoop returns test body p q
     pub of_turns : (returns : Bool) (slot : ℕ) (body : Written) (p q : ℕ)
         → Stands (turns returns slot body) p q → InTurns returns slot body p q

@@ -18,7 +18,7 @@ use Rattle.au_syntax.specs.Statements.{assign, assign_through, conditional, cond
 use Rattle.au_syntax.specs.Statements.{while_loop, for_loop, borrow_in, borrow_typed, discard, return_of}
 use Rattle.au_syntax.specs.Statements.{no_statements, statements, no_branches, branches, no_arms, arms}
 use Rattle.au_lowered.specs.Drafts.{Draft, plain, Written, ◌>>◌, nothing, does, given, unless, count_unless}
-use Rattle.au_lowered.specs.Drafts.{branch, loop}
+use Rattle.au_lowered.specs.Drafts.{branch, looped}
 use Rattle.au_lowered.specs.Expressions.{code, whole, part_of, part_behind}
 use Rattle.au_lowered.specs.Slots.{with_fields, fields_of_case, kept, after}
 
@@ -120,7 +120,7 @@ module _ {T C : Type 0} (see : View ℕ T C) where
     statement around slot scope (case_of at e all) =
         whole see around scope e >> cases slot (arms_of around slot scope (note_of e) all)
     statement around slot scope (while_loop at e body) =
-        loop (block_returns body) (whole see around scope e) (block around slot scope body)
+        looped (block_returns body) (whole see around scope e) (block around slot scope body)
     statement around slot scope (for_loop at name first last body) =
         whole see around scope first >> does (instr.Store slot)
         >> whole see around scope last >> does (instr.Store (slot + 1))

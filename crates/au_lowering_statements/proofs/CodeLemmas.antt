@@ -10,7 +10,7 @@ use Rattle.au_closed_trees.specs.declared.phase.ClosedTrees.{ClosedTrees}
 use Rattle.au_closed_meanings.specs.Surroundings.{Surroundings, view_in}
 use Rattle.au_typing.specs.Returns.{block_returns}
 use Rattle.au_low.specs.declared.instructions.Instr.TheVariants as instr
-use Rattle.au_lowered.specs.Drafts.{Draft, Written, does, nothing}
+use Rattle.au_lowered.specs.Drafts.{Draft, Written, does, looped, nothing}
 use Rattle.au_lowered.specs.Expressions.{whole}
 use Rattle.au_meaning.specs.Names.{mode_of, with_reference}
 use Rattle.au_lowered.specs.Statements as spec
@@ -19,7 +19,7 @@ use Rattle.au_lowering_expressions.specs.Wrote.{wrote}
 use Rattle.au_lowering_expressions.proofs.CodeLemmas.{ClosedBox, ClosedExpr, ClosedIdent}
 use Rattle.au_lowering_expressions.proofs.WroteLemmas.{wrote_row}
 use Rattle.au_lowering_statements.specs.Ends.{binds, lent}
-use Rattle.au_lowering_statements.specs.Pieces.{looped, with_bounds}
+use Rattle.au_lowering_statements.specs.Pieces.{with_bounds}
 use Rattle.au_meaning.specs.Expressions.{note_of}
 use Rattle.au_meaning.specs.Names.{Scope, Variable, variable_of, with_name}
 use Rattle.au_syntax.specs.declared.expressions.BorrowMode.{BorrowMode}

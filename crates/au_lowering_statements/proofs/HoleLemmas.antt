@@ -4,7 +4,7 @@ use Rattle.std.proofs.Common.{None, refl, sym, ap, ◌∙◌, arith}
 use Rattle.std.proofs.lemmas.List.{append-nil, append_assoc, length-append, length_push, set_at}
 use Rattle.au_low.specs.declared.instructions.Instr.{Instr}
 use Rattle.au_low.specs.declared.instructions.Instr.TheVariants.{ForStep, ForTest, Jump, JumpNot, Look, Store}
-use Rattle.au_lowered.specs.Drafts.{Draft, plain, Written, ◌>>◌, nothing, one, does, unless, count_unless, when, loop}
+use Rattle.au_lowered.specs.Drafts.{Draft, plain, Written, ◌>>◌, nothing, one, does, unless, count_unless, when, looped}
 use Rattle.au_lowered.specs.Statements.{turns}
 use Rattle.au_lowering_expressions.specs.Wrote.{wrote}
 use Rattle.au_lowering_expressions.proofs.WroteLemmas.{wrote_row}
@@ -51,14 +51,14 @@ when_written a d d1 d2 d3 at here first rest filled =
 
 -- a loop is its test, and its block where the test is true
 loop_is : (returns : Bool) (test block : Written) (d : List Draft)
-    → wrote (test >> when (block >> unless returns (Jump (length d)))) d ≡ wrote (loop returns test block) d
+    → wrote (test >> when (block >> unless returns (Jump (length d)))) d ≡ wrote (looped returns test block) d
 unfolding wrote
 loop_is returns test block d = refl
 
 -- `while`
 pub loop_written : (returns : Bool) (test block : Written) (d d1 d2 : List Draft) (start : ℕ)
     → start ≡ length d → d1 ≡ wrote test d → d2 ≡ wrote (when (block >> unless returns (Jump start))) d1
-    → d2 ≡ wrote (loop returns test block) d
+    → d2 ≡ wrote (looped returns test block) d
 loop_written returns test block d d1 d2 start here first rest =
     rest ∙ ap (λ t. wrote (when (block >> unless returns (Jump t))) d1) here
     ∙ ap (wrote (when (block >> unless returns (Jump (length d))))) first

@@ -1,7 +1,7 @@
 -- Pieces of the code of statements: a block, and what stands behind it.
 use Rattle.std.specs.Prelude.{◌≡◌, ℕ, ◌+◌, Bool, List, Option, length}
 use Rattle.au_low.specs.declared.instructions.Instr.TheVariants.{ForStep, Jump, Store}
-use Rattle.au_lowered.specs.Drafts.{Draft, Written, ◌>>◌, does, loop, nothing, unless}
+use Rattle.au_lowered.specs.Drafts.{Draft, Written, ◌>>◌, does, nothing, unless}
 use Rattle.au_lowered.specs.Expressions.{whole}
 use Rattle.au_lowered.specs.Statements as spec
 use Rattle.au_lowering_expressions.specs.Wrote.{wrote}
@@ -16,10 +16,6 @@ use Rattle.au_syntax.specs.Statements.{for_loop, borrow_in, borrow_typed}
 -- what a loop does where its test is true: the block, and a jump to the test
 abbrev pub turn_from : Bool → ℕ → Written → Written
 turn_from returns start block = block >> unless returns (Jump start)
-
--- `while`: a test, and a block while it is true
-abbrev pub looped : Bool → Written → Written → Written
-looped returns test block = loop returns test block
 
 -- the block of `for`, and the step to the next turn
 abbrev pub counted : Bool → ℕ → ℕ → Written → Written

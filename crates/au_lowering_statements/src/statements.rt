@@ -6,7 +6,7 @@ ghost use Rattle.au_closed_trees.specs.contracts.phase.ClosedTreesPhase.TheImpl.
 ghost use Rattle.au_closed_trees.specs.TreeViews.{closed_note};
 ghost use Rattle.au_closed_meanings.specs.Surroundings.{view_in};
 ghost use Rattle.au_typing.specs.Returns as returning;
-ghost use Rattle.au_lowered.specs.Drafts.{nothing};
+ghost use Rattle.au_lowered.specs.Drafts.{looped, nothing};
 ghost use Rattle.au_lowered.specs.Expressions.{whole};
 ghost use Rattle.au_lowered.specs.Statements as spec;
 ghost use Rattle.au_lowering_expressions.specs.Views.{drafts_said, scope_said};
@@ -47,7 +47,7 @@ fn write_while<R: Lookup>(
     out: &mut Vec<Draft>,
 ) -> Result<(), Memory>
     ensures code { OnOk result (drafts_said out.new.items
-        ≡ wrote (pieces.looped (returning.block_returns (block closed body.now))
+        ≡ wrote (looped (returning.block_returns (block closed body.now))
         (whole (view_in (R.round by.now.lookup.now)) by.now.around (scope_said scope.old.items)
         (expression closed test.now))
         (spec.block (view_in (R.round by.now.lookup.now)) by.now.around by.now.slot

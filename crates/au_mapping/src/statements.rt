@@ -54,6 +54,15 @@ fn walked_borrow_names<P: Phase, Q: Phase, W: Walk<P, Q>>(
     })
 }
 
+/// What a borrow statement with a written type says of its reference: its name and type, and how what is lent.
+#[derive_where(Clone, Copy)]
+struct TypedBorrow<'a, P: Phase> {
+    name: &'a Ident<P>,
+    text: &'a TypeText,
+    mode: BorrowMode,
+    variable: &'a Ident<P>,
+}
+
 /// The statement in the new phase.
 ///
 /// # Errors
@@ -100,7 +109,14 @@ pub fn walked_statement<P: Phase, Q: Phase, W: Walk<P, Q>>(
             walked_borrow(alloc, body, *at, *access, names, *end, walk)
         }
         Stmt::BorrowTyped(at, name, text, mode, variable, body, end) => {
-            walked_borrow_typed(alloc, body, *at, name, text, *mode, variable, *end, walk)
+            let mode = *mode;
+            let borrow = TypedBorrow {
+                name,
+                text,
+                mode,
+                variable,
+            };
+            walked_borrow_typed(alloc, body, *at, &borrow, *end, walk)
         }
         Stmt::Call(at, call) => Ok(Stmt::Call(*at, call.walked(alloc, walk)?)),
         Stmt::Return(at, value) => Ok(Stmt::Return(*at, value.walked(alloc, walk)?)),
@@ -171,19 +187,23 @@ fn walked_borrow_typed<P: Phase, Q: Phase, W: Walk<P, Q>>(
     alloc: Global,
     body: &Block<P>,
     at: Pos,
-    name: &Ident<P>,
-    text: &TypeText,
-    mode: BorrowMode,
-    variable: &Ident<P>,
+    borrow: &TypedBorrow<P>,
     end: Pos,
     walk: &mut W,
 ) -> Result<Stmt<Q>, Memory>
     ensures { IfOk result (λ new.
         statement (after W.Walk) new
-        ≡ statement (before W.Walk)
-        (Stmt.BorrowTyped at name.now text.now mode variable.now body.now end)) }
+        ≡ statement (before W.Walk) (Stmt.BorrowTyped at borrow.now.name.now borrow.now.text.now
+        borrow.now.mode borrow.now.variable.now body.now end)) }
 {
-    let (name, text, variable) = walked_three(alloc, name, text, variable, walk)?;
+    let mode = borrow.mode;
+    let (name, text, variable) = walked_three(
+        alloc,
+        borrow.name,
+        borrow.text,
+        borrow.variable,
+        walk,
+    )?;
     let body = walked_block(alloc, body, walk)?;
     Ok(Stmt::BorrowTyped(at, name, text, mode, variable, body, end))
 }

@@ -28,6 +28,15 @@ use au_syntax::{
 use std::alloc::Global;
 use std::collections::VecDeque;
 
+/// What a borrow statement with a written type says of its reference: its name and type, and how what is lent.
+#[derive(Clone, Copy)]
+struct TypedBorrow<'a> {
+    name: &'a Ident<Parsed>,
+    text: &'a TypeText,
+    mode: BorrowMode,
+    of: &'a Ident<Parsed>,
+}
+
 /// A statement.
 #[cycle(note_statement)]
 fn note_statement(
@@ -60,7 +69,14 @@ fn note_statement(
             note_borrow(alloc, scope, *at, *kind, names, body, *end)
         }
         Stmt::BorrowTyped(at, name, text, mode, of, body, end) => {
-            note_borrow_typed(alloc, scope, *at, name, text, *mode, of, body, *end)
+            let mode = *mode;
+            let borrow = TypedBorrow {
+                name,
+                text,
+                mode,
+                of,
+            };
+            note_borrow_typed(alloc, scope, *at, &borrow, body, *end)
         }
         Stmt::Call(at, value) => note_call(alloc, scope, *at, value),
         Stmt::Return(at, value) => note_return(alloc, scope, *at, value),
@@ -194,20 +210,18 @@ fn note_borrow_typed(
     alloc: Global,
     scope: &mut Scope,
     at: Pos,
-    name: &Ident<Parsed>,
-    text: &TypeText,
-    mode: BorrowMode,
-    of: &Ident<Parsed>,
+    borrow: &TypedBorrow,
     body: &Block<Parsed>,
     end: Pos,
 ) -> Result<Stmt<Noted>, Refused>
     ensures judged { Judges (statement noted) result (spec.note_statement (form.borrow_typed at
-        (placed parsed name.now) (written text.now) mode (placed parsed of.now)
-        (block parsed body.now) end) (scope_said scope.old)) }
+        (placed parsed borrow.now.name.now) (written borrow.now.text.now) borrow.now.mode
+        (placed parsed borrow.now.of.now) (block parsed body.now) end) (scope_said scope.old)) }
     ensures left { OnOk result (scope_said scope.new ≡ scope_said scope.old) }
 {
     let depth = scope.depth();
-    let (name, text, of) = typed_at(alloc, scope, at, name, text, mode, of)?;
+    let mode = borrow.mode;
+    let (name, text, of) = typed_at(alloc, scope, at, borrow.name, borrow.text, mode, borrow.of)?;
     let body = note_block(alloc, scope, body)?;
     scope.leave_to(depth);
     scope.leave_region();

@@ -8,7 +8,7 @@ use Rattle.au_type_texts.specs.Types.{ClosedType}
 use Rattle.au_typing.specs.Returns.{block_returns}
 use Rattle.au_low.specs.declared.code.LowType.{LowType}
 use Rattle.au_low.specs.declared.instructions.Instr.TheVariants as instr
-use Rattle.au_lowered.specs.Drafts.{Written, ◌>>◌, nothing, does, given, either, branch, loop}
+use Rattle.au_lowered.specs.Drafts.{Written, ◌>>◌, nothing, does, given, either, branch, looped}
 use Rattle.au_lowered.specs.Expressions.{by_position, by_labels, calls, literal, mention, operand, joins}
 use Rattle.au_lowered.specs.Expressions.{code, code_of_all, code_of_named, opens, closing, whole, part_of}
 use Rattle.au_lowered.specs.Expressions.{part_behind}
@@ -145,7 +145,7 @@ module _ {T C : Type 0} (see : View ℕ T C) where
         λ i. whole_same around scope e ok.0 i
         >> cases slot (λ place. arms_same around slot scope (note_of e) all ok.1 place i)
     statement_same around slot scope (while_loop at e body) ok =
-        λ i. loop (block_returns body) (whole_same around scope e ok.0 i)
+        λ i. looped (block_returns body) (whole_same around scope e ok.0 i)
         (block_same around slot scope body ok.1 i)
     statement_same around slot scope (for_loop at name first last body) ok =
         λ i. whole_same around scope first ok.0 i >> does (instr.Store slot)

@@ -17,8 +17,9 @@ syntax keyword australBuiltin Unit Bool Nat8 Nat16 Nat32 Nat64 Int8 Int16 Int32 
 
 syntax match australNumber /\<\d\+\>/
 syntax match australSign /:=\|->\|=>\|&!\|&\~\|\/=\|<=\|>=\|[-+*\/=<>!&]/
+syntax match australBadEscape /\\./ contained
 syntax match australEscape /\\[nrt"\\]/ contained
-syntax region australText start=/"/ skip=/\\./ end=/"/ oneline contains=australEscape
+syntax region australText start=/"/ skip=/\\./ end=/"/ oneline contains=australEscape,australBadEscape
 syntax region australDocstring start=/"""/ end=/"""/
 syntax match australComment /--.*$/ contains=australTodo
 syntax keyword australTodo TODO FIXME contained
@@ -35,6 +36,7 @@ highlight default link australBuiltin Type
 highlight default link australNumber Number
 highlight default link australSign Operator
 highlight default link australEscape SpecialChar
+highlight default link australBadEscape Error
 highlight default link australText String
 highlight default link australDocstring Comment
 highlight default link australComment Comment

@@ -202,15 +202,19 @@ push_inside-returns-in-Borrow-clause-put t c =
 pub push_inside-returns-in-Borrow-clause-kept : goal.push_inside-returns-in-Borrow-clause-kept
 push_inside-returns-in-Borrow-clause-kept t c = c.push_borrow.ensures.kept
 
-pub push_inside-returns-in-BorrowTyped-clause-put : goal.push_inside-returns-in-BorrowTyped-clause-put
-push_inside-returns-in-BorrowTyped-clause-put t c =
-    puts.put_as c.push_borrow_typed.result c.args.made.now.items c.push_borrow_typed.new.made.items _ _
+pub push_inside-returns-in_ok-found-in-BorrowTyped-clause-put :
+    goal.push_inside-returns-in_ok-found-in-BorrowTyped-clause-put
+push_inside-returns-in_ok-found-in-BorrowTyped-clause-put t c =
+    puts.put_as c.push_typed.result c.args.made.now.items c.push_typed.new.made.items _ _
     (says_so (scope_said c.args.scope.now) (statement_said c.args.stmt.now) _
-    (ap (statement parsed) c.in-BorrowTyped.is ∙ borrow_typed_says parsed _ _ _ _ _ _ _))
-    c.push_borrow_typed.ensures.put
+    (ap (statement parsed) c.in-BorrowTyped.is ∙ borrow_typed_says parsed _ _ _ _ _ _ _)
+    ∙ ap (listed_typed (scope_said c.args.scope.now) (name_said c.in-BorrowTyped.name)
+    (block_said c.in-BorrowTyped.block)) (sym c.in_ok-found-in-BorrowTyped.ensures))
+    c.push_typed.ensures.put
 
-pub push_inside-returns-in-BorrowTyped-clause-kept : goal.push_inside-returns-in-BorrowTyped-clause-kept
-push_inside-returns-in-BorrowTyped-clause-kept t c = c.push_borrow_typed.ensures.kept
+pub push_inside-returns-in_ok-found-in-BorrowTyped-clause-kept :
+    goal.push_inside-returns-in_ok-found-in-BorrowTyped-clause-kept
+push_inside-returns-in_ok-found-in-BorrowTyped-clause-kept t c = c.push_typed.ensures.kept
 
 pub push_inside-returns-in_ok-push_branches-in-IfElse-clause-put :
     goal.push_inside-returns-in_ok-push_branches-in-IfElse-clause-put
@@ -300,24 +304,24 @@ push_borrow-returns-in-Some-clause-put t c =
 pub push_borrow-returns-in-Some-clause-kept : goal.push_borrow-returns-in-Some-clause-kept
 push_borrow-returns-in-Some-clause-kept t c = c.push_lent.ensures.kept
 
-pub push_borrow_typed-returns-in-None-clause-put : goal.push_borrow_typed-returns-in-None-clause-put
-push_borrow_typed-returns-in-None-clause-put t c =
+pub push_typed-returns-in-None-clause-put : goal.push_typed-returns-in-None-clause-put
+push_typed-returns-in-None-clause-put t c =
     nothing_added c.args.made.now.items _
     (ap (listed_typed (scope_said c.args.scope.now) (name_said c.args.name.now) (block_said c.args.block.now))
-    (sym c.in_ok-found.ensures ∙ ap (option_map reference_said) c.in-None.is))
+    (ap (option_map reference_said) c.in-None.is))
 
-pub push_borrow_typed-returns-in-None-clause-kept : goal.push_borrow_typed-returns-in-None-clause-kept
-push_borrow_typed-returns-in-None-clause-kept t c = refl
+pub push_typed-returns-in-None-clause-kept : goal.push_typed-returns-in-None-clause-kept
+push_typed-returns-in-None-clause-kept t c = refl
 
-pub push_borrow_typed-returns-in-Some-clause-put : goal.push_borrow_typed-returns-in-Some-clause-put
-push_borrow_typed-returns-in-Some-clause-put t c =
+pub push_typed-returns-in-Some-clause-put : goal.push_typed-returns-in-Some-clause-put
+push_typed-returns-in-Some-clause-put t c =
     puts.put_as c.push_lent.result c.args.made.now.items c.push_lent.new.made.items _ _
     (ap (listed_typed (scope_said c.args.scope.now) (name_said c.args.name.now) (block_said c.args.block.now))
-    (sym c.in_ok-found.ensures ∙ ap (option_map reference_said) c.in-Some.is))
+    (ap (option_map reference_said) c.in-Some.is))
     c.push_lent.ensures.put
 
-pub push_borrow_typed-returns-in-Some-clause-kept : goal.push_borrow_typed-returns-in-Some-clause-kept
-push_borrow_typed-returns-in-Some-clause-kept t c = c.push_lent.ensures.kept
+pub push_typed-returns-in-Some-clause-kept : goal.push_typed-returns-in-Some-clause-kept
+push_typed-returns-in-Some-clause-kept t c = c.push_lent.ensures.kept
 
 -- ---- branches and arms
 

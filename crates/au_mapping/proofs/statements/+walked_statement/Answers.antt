@@ -92,8 +92,8 @@ walked_borrow-returns g t c =
 
 pub walked_borrow_typed-returns : goal.walked_borrow_typed-returns
 walked_borrow_typed-returns g t c =
-    borrow_typed_walked g.W.Walk c.args.at c.args.name.now c.in_ok-name.name
-    c.args.text.now c.in_ok-name.text c.args.mode c.args.variable.now c.in_ok-name.variable
+    borrow_typed_walked g.W.Walk c.args.at c.args.borrow.now.name.now c.in_ok-name.name
+    c.args.borrow.now.text.now c.in_ok-name.text c.args.borrow.now.mode c.args.borrow.now.variable.now c.in_ok-name.variable
     c.args.body.now c.in_ok-body.body c.args.end c.in_ok-name.ensures.first c.in_ok-name.ensures.second
     c.in_ok-name.ensures.third c.in_ok-body.ensures
 

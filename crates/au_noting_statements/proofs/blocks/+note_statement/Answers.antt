@@ -230,34 +230,34 @@ pub note_borrow_typed-returns-in_err-name-clause-judged : goal.note_borrow_typed
 note_borrow_typed-returns-in_err-name-clause-judged t c =
     let p = err_from_is_err_and c.from_residual.result c.from_residual.ensures.1 in
     stops_by (statement noted) c.from_residual.result _ _ _ p c.in_err-name.ensures.judged
-    (λ f h. typed_stops c.args.at (placed parsed c.args.name.now) (written c.args.text.now) c.args.mode
-    (placed parsed c.args.of.now) (block parsed c.args.body.now) c.args.end (scope_said c.args.scope.now) f
+    (λ f h. typed_stops c.args.at (placed parsed c.args.borrow.now.name.now) (written c.args.borrow.now.text.now) c.args.borrow.now.mode
+    (placed parsed c.args.borrow.now.of.now) (block parsed c.args.body.now) c.args.end (scope_said c.args.scope.now) f
     h)
 
 pub note_borrow_typed-returns-in_err-body-clause-judged : goal.note_borrow_typed-returns-in_err-body-clause-judged
 note_borrow_typed-returns-in_err-body-clause-judged t c =
     let p = err_from_is_err_and c.from_residual-in_err-body.result c.from_residual-in_err-body.ensures.1 in
     stops_by (statement noted) c.from_residual-in_err-body.result _ _ _ p c.in_err-body.ensures.judged
-    (λ f h. typed_stops_behind c.args.at (placed parsed c.args.name.now) (written c.args.text.now) c.args.mode
-    (placed parsed c.args.of.now) (block parsed c.args.body.now) c.args.end (scope_said c.args.scope.now)
+    (λ f h. typed_stops_behind c.args.at (placed parsed c.args.borrow.now.name.now) (written c.args.borrow.now.text.now) c.args.borrow.now.mode
+    (placed parsed c.args.borrow.now.of.now) (block parsed c.args.body.now) c.args.end (scope_said c.args.scope.now)
     (scope_said c.typed_at.new.scope) f c.in_ok-name.ensures.judged h)
 
 pub note_borrow_typed-returns-clause-judged : goal.note_borrow_typed-returns-clause-judged
 note_borrow_typed-returns-clause-judged t c =
-    typed_noted c.args.at (placed parsed c.args.name.now) (written c.args.text.now) c.args.mode
-    (placed parsed c.args.of.now) (block parsed c.args.body.now) c.args.end (scope_said c.args.scope.now)
+    typed_noted c.args.at (placed parsed c.args.borrow.now.name.now) (written c.args.borrow.now.text.now) c.args.borrow.now.mode
+    (placed parsed c.args.borrow.now.of.now) (block parsed c.args.body.now) c.args.end (scope_said c.args.scope.now)
     (scope_said c.typed_at.new.scope) (block noted c.in_ok-body.body)
     c.in_ok-name.ensures.judged c.in_ok-body.ensures.judged
     ∙ ap (λ (n : Placed Bytes). Ok
-    (borrow_typed c.args.at n (written c.args.text.now) c.args.mode (placed parsed c.args.of.now)
+    (borrow_typed c.args.at n (written c.args.borrow.now.text.now) c.args.borrow.now.mode (placed parsed c.args.borrow.now.of.now)
     (block noted c.in_ok-body.body) c.args.end)) (sym c.in_ok-name.ensures.name)
-    ∙ ap (λ (w : WrittenType). Ok (borrow_typed c.args.at (placed noted c.in_ok-name.name) w c.args.mode
-    (placed parsed c.args.of.now) (block noted c.in_ok-body.body) c.args.end))
+    ∙ ap (λ (w : WrittenType). Ok (borrow_typed c.args.at (placed noted c.in_ok-name.name) w c.args.borrow.now.mode
+    (placed parsed c.args.borrow.now.of.now) (block noted c.in_ok-body.body) c.args.end))
     (sym c.in_ok-name.ensures.text)
     ∙ ap (λ (n : Placed Bytes). Ok
-    (borrow_typed c.args.at (placed noted c.in_ok-name.name) (written c.in_ok-name.text) c.args.mode n
+    (borrow_typed c.args.at (placed noted c.in_ok-name.name) (written c.in_ok-name.text) c.args.borrow.now.mode n
     (block noted c.in_ok-body.body) c.args.end)) (sym c.in_ok-name.ensures.of)
-    ∙ ap Ok (sym (borrow_typed_says noted c.args.at c.in_ok-name.name c.in_ok-name.text c.args.mode
+    ∙ ap Ok (sym (borrow_typed_says noted c.args.at c.in_ok-name.name c.in_ok-name.text c.args.borrow.now.mode
     c.in_ok-name.of c.in_ok-body.body c.args.end))
 
 pub note_borrow_typed-returns-clause-left : goal.note_borrow_typed-returns-clause-left
@@ -265,7 +265,7 @@ note_borrow_typed-returns-clause-left t c =
     closed_again (scope_said c.args.scope.now) (scope_said c.typed_at.new.scope)
     (scope_said c.note_block.new.scope) (scope_said c.leave_to.new.self) _ c.depth-depth.result
     c.depth-depth.ensures
-    (typed_back c.args.at c.args.name.now.name (written c.args.text.now) c.args.mode c.args.of.now.name
+    (typed_back c.args.at c.args.borrow.now.name.now.name (written c.args.borrow.now.text.now) c.args.borrow.now.mode c.args.borrow.now.of.now.name
     (scope_said c.args.scope.now) (scope_said c.typed_at.new.scope) c.in_ok-name.ensures.judged)
     c.in_ok-body.ensures.left c.leave_to.ensures c.leave_region.ensures
 
