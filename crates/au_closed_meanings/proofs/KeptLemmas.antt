@@ -215,6 +215,7 @@ what_is program functions = (
     parameters = λ number f at. fields_count (parameters_seen f);
     notes = λ number f at of h. refl;
     inside = λ of k tag. found_count (fields_in program of tag);
+    references = record { reads = λ of. refl; writes = λ of. refl };
   },
 )
 

@@ -31,7 +31,8 @@ use Rattle.au_lowered.proofs.PlacedLemmas.{has_program}
 use Rattle.au_lowered.proofs.RunLemmas.{begins_none, begins_root, runs_follow}
 use Rattle.au_lowered.proofs.TopLemmas.{Claims, Shows, ending_of, enters_if, entry_frame, first_common}
 use Rattle.au_lowered.specs.Runs.{run_at}
-use Rattle.au_lowered.specs.Sides.{Both, Coding, Common, Spot, all_meant, spot}
+use Rattle.au_lowered.specs.Sides.{Both, Coding, Common, Spot, all_meant}
+use Rattle.au_lowered.specs.Frames.{spot}
 use Rattle.au_syntax.specs.Plain.{Bytes}
 
 -- what is stuck doesn't abort

@@ -1,7 +1,7 @@
 use Rattle.std.proofs.Common.{◌∙◌, reverse}
 use Rattle.au_cells.specs.Cells.{low}
 use Rattle.au_machine.proofs.StateLemmas.{slot_is, there}
-use Rattle.au_machine.proofs.states.State.held.Goals as goal
+use Rattle.au_machine.proofs.states.State.held_value.Goals as goal
 
 pub returns-in-Some-clause-is : goal.returns-in-Some-clause-is
 returns-in-Some-clause-is c =

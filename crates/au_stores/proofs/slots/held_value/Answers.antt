@@ -4,7 +4,7 @@ use Rattle.au_effects.specs.Parts.{along}
 use Rattle.au_cells.specs.declared.cells.Cell.{Cell}
 use Rattle.au_cells.specs.Cells.{low}
 use Rattle.au_stores.proofs.StoreLemmas.{held_get}
-use Rattle.au_stores.proofs.slots.held.Goals as goal
+use Rattle.au_stores.proofs.slots.held_value.Goals as goal
 
 pub returns-in-Some : goal.returns-in-Some
 returns-in-Some c =
