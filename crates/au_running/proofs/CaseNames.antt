@@ -38,18 +38,18 @@ labels_of cases = map labels_of_case cases
 
 module _ (names : List (Bytes × DeclAt)) (heads : List (DeclAt × Head)) (params : List Parameter) (given others : Given)
   where
-  field_names_same : (fields : List (Labelled Bytes))
-      → map (λ (field : ClosedField). field.name) (map (field_under names heads params given) fields)
-      ≡ map (λ (field : ClosedField). field.name) (map (field_under names heads params others) fields)
-  field_names_same [] = refl
-  field_names_same (one ∷ rest) = ap (λ all. one.name.name ∷ all) (field_names_same rest)
+    field_names_same : (fields : List (Labelled Bytes))
+        → map (λ (field : ClosedField). field.name) (map (field_under names heads params given) fields)
+        ≡ map (λ (field : ClosedField). field.name) (map (field_under names heads params others) fields)
+    field_names_same [] = refl
+    field_names_same (one ∷ rest) = ap (λ all. one.name.name ∷ all) (field_names_same rest)
 
-  variants_same : (cases : List (Variant Bytes))
-      → labels_of (map (variant_under names heads params given) cases)
-      ≡ labels_of (map (variant_under names heads params others) cases)
-  variants_same [] = refl
-  variants_same (one ∷ rest) =
-      ap₂ (λ fields all. (one.name.name, fields) ∷ all) (field_names_same one.fields) (variants_same rest)
+    variants_same : (cases : List (Variant Bytes))
+        → labels_of (map (variant_under names heads params given) cases)
+        ≡ labels_of (map (variant_under names heads params others) cases)
+    variants_same [] = refl
+    variants_same (one ∷ rest) =
+        ap₂ (λ fields all. (one.name.name, fields) ∷ all) (field_names_same one.fields) (variants_same rest)
 
 declared_same : (names : List (Bytes × DeclAt)) (heads : List (DeclAt × Head)) (args others : List ClosedType) (d :
     PlainDeclaration)

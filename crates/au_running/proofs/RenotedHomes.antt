@@ -136,13 +136,13 @@ module _ {T C U D : Type 0} (one other : Change Bytes T C U D) (records : U → 
     (other_records : (note : T) (name : Bytes) → records (other.mention note name) ≡ records (other.note note))
     (other_cases : (note : T) (name arm : Bytes) → cases (other.mention note name) arm ≡ cases (other.note note) arm)
   where
-  pub made_of_one : (slot : ℕ) (b : Statements Bytes T C)
-      → NamesAgreeInBlock (λ note. records (one.note note)) (λ note. records (other.note note)) (λ note arm. cases
-      (one.note note) (one.arm arm)) (λ note arm. cases (other.note note) (other.arm arm)) b
-      → homes_of_block records cases slot (block_renoted one b) ≡ homes_of_block records cases slot (block_renoted
-      other b)
-  made_of_one slot b agree =
-      block_kept one records cases one_records one_cases slot b
-      ∙ homes_are_same (λ note. records (one.note note)) (λ note. records (other.note note)) (λ note arm. cases
-      (one.note note) (one.arm arm)) (λ note arm. cases (other.note note) (other.arm arm)) slot b agree
-      ∙ sym (block_kept other records cases other_records other_cases slot b)
+    pub made_of_one : (slot : ℕ) (b : Statements Bytes T C)
+        → NamesAgreeInBlock (λ note. records (one.note note)) (λ note. records (other.note note)) (λ note arm. cases
+        (one.note note) (one.arm arm)) (λ note arm. cases (other.note note) (other.arm arm)) b
+        → homes_of_block records cases slot (block_renoted one b) ≡ homes_of_block records cases slot (block_renoted
+        other b)
+    made_of_one slot b agree =
+        block_kept one records cases one_records one_cases slot b
+        ∙ homes_are_same (λ note. records (one.note note)) (λ note. records (other.note note)) (λ note arm. cases
+        (one.note note) (one.arm arm)) (λ note arm. cases (other.note note) (other.arm arm)) slot b agree
+        ∙ sym (block_kept other records cases other_records other_cases slot b)

@@ -1,6 +1,6 @@
 -- The functions of a closed program that share a number of a declaration are instances of one body, and have
 -- the same slots.
-use Rattle.std.proofs.Common.{◌≡◌, ℕ, zero, suc, ◌+◌, ◌<◌, true, List, [], ◌∷◌, ◌++◌, length, map, Option, Some, None}
+use Rattle.std.proofs.Common.{◌≡◌, ℕ, zero, suc, ◌+◌, ◌<◌, ◌≤◌, Bool, true, List, [], ◌∷◌, ◌++◌, length, map, Option, Some, None}
 use Rattle.std.proofs.Common.{refl, sym, ap, ap₂, subst, ◌∙◌, arith, slice_get}
 use Rattle.std.proofs.lemmas.List.{length-append, length-map}
 use Rattle.std.proofs.lemmas.Option.{slice_get-map}
@@ -18,7 +18,7 @@ use Rattle.au_types.specs.Types as whole
 use Rattle.au_types.specs.Types.{Meaning}
 use Rattle.au_type_texts.specs.Types.{ClosedType, ClosedTypes, named, reads, writes}
 use Rattle.au_type_texts.specs.Given.{Given, all_closed_under, closed_under}
-use Rattle.au_closed_trees.specs.ClosedNotes.{Callee, ClosedNote}
+use Rattle.au_closed_trees.specs.ClosedNotes.{Callee, ClosedNote, ClosedStatements}
 use Rattle.au_closed_trees.specs.Notes.{said_in_block}
 use Rattle.au_closed_trees.specs.Renoted.{block_renoted}
 use Rattle.au_closing.specs.Bodies.{BodyOf, body_of}
@@ -65,6 +65,12 @@ parameters_same slot (p ∷ rest) [] e = absurd (omega (arith, e))
 parameters_same slot (p ∷ rest) (q ∷ more) e =
     ap (λ all. slot ∷ all) (parameters_same (slot + 1) rest more (omega (arith, e)))
 
+-- what lies within so many numbers from one on
+within : (first number n many names : ℕ) → first ≡ number → many ≡ names → number ≤ n → n < number + many
+    → (first ≤ n) × (n < first + names)
+within first number n many names same count low high =
+    (omega (arith, same, low), omega (arith, same, count, high))
+
 module _ (program : List ModuleParts) (noted : List NotedParts) (entry : Instance) (functions : List ClosedFunction)
     (closes : ClosesFunctions program noted entry functions) (round : Bytes → Surroundings)
     (known : ClosedType → Bool) (says : SaysWhatIs known program functions round)
@@ -80,7 +86,7 @@ module _ (program : List ModuleParts) (noted : List NotedParts) (entry : Instanc
   abbrev seen : BodyOf → View ℕ ClosedNote (Callee ℕ)
   seen body = view_in (round (module_name program body.place))
 
-  abbrev closed_block : Given → BodyOf → _
+  abbrev closed_block : Given → BodyOf → ClosedStatements
   closed_block given body =
       block_renoted (change_of program noted all body.place (written_params body.generics) given) body.block
 
@@ -232,14 +238,10 @@ module _ (program : List ModuleParts) (noted : List NotedParts) (entry : Instanc
       (closed_block given body) in
       let names : names_in_block body.block ≡ names_in_block (closed_block given body) =
       names_same_block (change_of program noted all body.place (written_params body.generics) given) body.block in
-      omega (
-        arith,
-        length-append (parameter_homes 0 params) slots,
-        parameters_many 0 params,
-        block_many (fields_in (seen body)) (fields_of_case (seen body)) (length params) (closed_block given body),
-        parameters_are given body,
-        names,
-      )
+      length-append (parameter_homes 0 params) slots
+      ∙ ap₂ (λ a b. a + b) (parameters_many 0 params ∙ parameters_are given body)
+      (block_many (fields_in (seen body)) (fields_of_case (seen body)) (length params) (closed_block given body)
+      ∙ sym names)
 
   -- and the same slots under all that is given
   homes_same : (first second : ℕ) (given others : Given) (body : BodyOf) (sc : Scope)
@@ -305,14 +307,11 @@ module _ (program : List ModuleParts) (noted : List NotedParts) (entry : Instanc
             bodied f0 one (body_of program noted one.of) at listed refl same is
 
     -- a number of a declaration is that of a name of the body
-    named : (i n : ℕ) (one : Instance) (body : BodyOf) → slice_get all i ≡ Some one
+    is_name : (i n : ℕ) (one : Instance) (body : BodyOf) → slice_get all i ≡ Some one
         → Declares (made (numbers i) one.given body) n → IsNameOf body (first one) n
-    named i n one body listed declares =
-        let many = homes_many (numbers i) one.given body in
-        let same = alike i one listed in
-        let low = declares.0 in
-        let high = declares.1 in
-        (omega (arith, same, low), omega (arith, same, many, high))
+    is_name i n one body listed declares =
+        within (first one) (numbers i) n (length (function_homes (made (numbers i) one.given body))) (names_of body)
+        (alike i one listed) (homes_many (numbers i) one.given body) declares.0 declares.1
 
     both : (i j n : ℕ) (one other : Instance) (body another : BodyOf) → slice_get all i ≡ Some one
         → slice_get all j ≡ Some other → body_of program noted one.of ≡ Some body
@@ -324,8 +323,8 @@ module _ (program : List ModuleParts) (noted : List NotedParts) (entry : Instanc
         × (function_homes (made (numbers i) one.given body)
         ≡ function_homes (made (numbers j) other.given another))
     both i j n one other body another listed too is there at behind h k =
-        let shared = apart one other n body another is there (named i n one body listed h)
-        (named j n other another too k) in
+        let shared = apart one other n body another is there (is_name i n one body listed h)
+        (is_name j n other another too k) in
         let good = typed one body is in (
           sym (alike i one listed) ∙ shared.1 ∙ alike j other too,
           subst (λ x. function_homes (made (numbers i) one.given body)

@@ -1,5 +1,5 @@
 -- What is taken apart in a body that is typed has fields of the same names, whatever closed types are given.
-use Rattle.std.proofs.Common.{◌≡◌, List, [], ◌∷◌, Some, Ok, Err, refl, sym, ap, ◌∙◌}
+use Rattle.std.proofs.Common.{◌≡◌, Bool, List, [], ◌∷◌, Some, Ok, Err, refl, sym, ap, ◌∙◌}
 use Rattle.au_syntax.specs.Expressions.{Expression, number, negative, text, truth, nil, path, arrow, call, named_call}
 use Rattle.au_syntax.specs.Expressions.{parenthesized, dereference, borrow, borrow_part, binary, negation, typed, choice}
 use Rattle.au_syntax.specs.Plain.{Bytes}
@@ -14,10 +14,10 @@ use Rattle.au_meaning.specs.Expressions.{note_of}
 use Rattle.au_meaning.specs.Views.{Field}
 use Rattle.au_typing.specs.Scopes.{Case, Outside, Scope, Typed}
 use Rattle.au_typing.specs.Faults.{Noting}
-use Rattle.au_typing.specs.InScope.{after, with_bound, with_typed}
+use Rattle.au_typing.specs.InScope.{after, fixed_variable, with_bound, with_reference, with_typed, with_variable}
 use Rattle.au_typing.specs.Lookups.{written_type}
 use Rattle.au_typing.specs.Notes.{Note, NotedExpression, type_of}
-use Rattle.au_typing.specs.Parts.{cases_told}
+use Rattle.au_typing.specs.Parts.{borrow_type, cases_told, mode_for}
 use Rattle.au_typing.specs.Statements.{GoodStatement, GoodBlock, GoodBranches, GoodArmBlocks}
 use Rattle.au_typing.specs.Trees.{NotedStatement, NotedStatements, NotedBranches, NotedArms}
 use Rattle.au_types.specs.Types.{Meaning}
@@ -25,7 +25,7 @@ use Rattle.au_names.specs.Importing.{given_name}
 
 -- ---- what is outside
 
-typed_outside : (name : Bytes) (assignable : _) (of : Noting Meaning) (sc : Scope)
+typed_outside : (name : Bytes) (assignable : Bool) (of : Noting Meaning) (sc : Scope)
     → (with_typed name assignable of sc).outside ≡ sc.outside
 typed_outside name assignable (Ok t) sc = refl
 typed_outside name assignable (Err fault) sc = refl
@@ -109,9 +109,12 @@ module _ (outside : Outside) (counts too : Note → Type 0) (fields others : Not
         (tells (note_of e) sc o g.0.cases (ap (cases_told sc) (sym (noted_type e)) ∙ g.0.known) c.0 d.0)
         g.1 c.2 d.2
     agrees (while_loop at e b) sc o g c d = block_agrees b sc o g.1 c.1 d.1
-    agrees (for_loop at n a z b) sc o g c d = block_agrees b _ o g.1 c.3 d.3
-    agrees (borrow_in at access x r region b stop) sc o g c d = block_agrees b _ o g.2 c d
-    agrees (borrow_typed at r t mode x b stop) sc o g c d = block_agrees b _ o g.3 c d
+    agrees (for_loop at n a z b) sc o g c d =
+        block_agrees b (with_variable (fixed_variable n.name (type_of a)) sc) o g.1 c.3 d.3
+    agrees (borrow_in at kind x r region b stop) sc o g c d =
+        block_agrees b (with_reference r.name region.name (borrow_type (mode_for kind) region.name g.0) sc) o g.2 c d
+    agrees (borrow_typed at r t mode x b stop) sc o g c d =
+        block_agrees b (with_reference r.name g.0 g.1 sc) o g.3 c d
     agrees (discard at e) sc o g c d = tt
     agrees (return_of at e) sc o g c d = tt
 
