@@ -97,7 +97,7 @@ module _ (outside : Outside) (counts too : Note → Type 0) (fields others : Not
     agrees (declare at b n t e) sc o g c d = tt
     agrees (destructure at binds e) sc o g c d =
         takes (note_of e) g.fields
-        (ap (λ (out : Outside). out.fields (note_of e).of) (sym o)
+        (ap (λ (out : Outside). out.fields ((note_of e).of)) (sym o)
         ∙ ap (λ t. sc.outside.fields t) (sym (noted_type e)) ∙ g.known) c.0 d.0
     agrees (assign at n path e) sc o g c d = tt
     agrees (assign_through at n path e) sc o g c d = tt
