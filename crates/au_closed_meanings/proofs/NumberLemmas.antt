@@ -172,7 +172,8 @@ shared bodies place other n body another one two h k (inl less) =
     absurd (omega (arith, apart, h.1, k.0))
 shared bodies place other n body another one two h k (inr (inl same)) =
     let there : Some body ≡ Some another = sym one ∙ ap (slice_get bodies) same ∙ two in
-    (let is : body ≡ another = cc in is, ap (names_before bodies) same)
+    let is : body ≡ another = cc in
+    (is, ap (names_before bodies) same)
 shared bodies place other n body another one two h k (inr (inr more)) =
     let apart = numbers_apart bodies other place another more two in
     absurd (omega (arith, apart, k.1, h.0))
