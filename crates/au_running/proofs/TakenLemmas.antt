@@ -99,8 +99,8 @@ module _ (outside : Outside) (counts too : Note → Type 0) (fields others : Not
         takes (note_of e) g.fields
         (ap (λ (out : Outside). out.fields ((note_of e).of)) (sym o)
         ∙ ap (λ t. sc.outside.fields t) (sym (noted_type e)) ∙ g.known) c.0 d.0
-    agrees (assign at n path e) sc o g c d = tt
-    agrees (assign_through at n path e) sc o g c d = tt
+    agrees (assign at n names e) sc o g c d = tt
+    agrees (assign_through at n names e) sc o g c d = tt
     agrees (conditional at tests) sc o g c d = tests_agree tests sc o g c d
     agrees (conditional_else at tests b) sc o g c d =
         (tests_agree tests sc o g.0 c.0 d.0, block_agrees b sc o g.1 c.1 d.1)
