@@ -174,9 +174,9 @@ module _ (program : List ModuleParts) (noted : List NotedParts) (entry : Instanc
       where
         none : (t : Meaning) → (outside_of program body.place Body).cases t ≡ None
             → sc.outside.cases t ≡ Some found → ⊥
-        none t no e =
+        none t missing e =
             let both : None ≡ Some found =
-            sym no ∙ ap (λ (out : Outside). out.cases t) (sym o) ∙ e in absurd cc
+            sym missing ∙ ap (λ (out : Outside). out.cases t) (sym o) ∙ e in absurd cc
 
         by : (t : Meaning) → cases_told sc t ≡ Some found
             → known (closed_under given t) ≡ true → known (closed_under others t) ≡ true
