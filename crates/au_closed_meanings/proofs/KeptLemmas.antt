@@ -171,7 +171,7 @@ module _ (program : List ModuleParts) (noted : List NotedParts) (entry : Instanc
         ap (λ b. enters invoke depth (option_map (function_under program noted (first one) one.given) b)) is.1
         ∙ body_same invoke other (closing_at depth) depth (first one) one here is.0 is.2 is.1
         ∙ ap (λ n. enters other depth (Some (function_closed round n
-        (body_closed program noted all one.given is.0)))) (alike one here)
+        (body_closed program noted all one.given is.0)))) (alike (place_in one all) one (place_back all one here))
         ∙ sym (ap (λ f. enters other depth
         (option_map (function_closed round (numbers (place_in one all))) f)) is.2)
 

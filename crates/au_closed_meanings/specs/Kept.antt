@@ -4,12 +4,11 @@ use Rattle.au_syntax.specs.Plain.{Bytes}
 use Rattle.au_type_texts.specs.Types.{ClosedType}
 use Rattle.au_modules.specs.Programs.{ModuleParts}
 use Rattle.au_typing.specs.Trees.{NotedParts}
-use Rattle.au_graphs.specs.Reached.{Has}
 use Rattle.au_closed_trees.specs.ClosedNotes.{ClosedNote, ClosedStatements}
 use Rattle.au_closed_trees.specs.Notes.{said_in_block}
 use Rattle.au_closed_meanings.specs.Agreement.{FieldsCount, FoundCount, ReferencesCount}
 use Rattle.au_closing.specs.Closes.{ClosedFunction, ClosesFunctions}
-use Rattle.au_closing.specs.Instances.{Instance, place_in, same_instance}
+use Rattle.au_closing.specs.Instances.{Instance}
 use Rattle.au_meaning.specs.Views.{Field}
 use Rattle.au_meaning.specs.Meanings.{mean}
 use Rattle.au_closed_meanings.specs.Surroundings.{Surroundings}
@@ -19,7 +18,7 @@ use Rattle.au_closed_meanings.specs.Generic.{fields_in, generic_functions, linea
 -- instances of a list number their names as the functions in their places do
 abbrev pub NumberAlike : List Instance → (Instance → ℕ) → (ℕ → ℕ) → Type 0
 NumberAlike all first numbers =
-    (one : Instance) → Has same_instance all one → first one ≡ numbers (place_in one all)
+    (place : ℕ) (one : Instance) → slice_get all place ≡ Some one → first one ≡ numbers place
 
 -- the types that are noted in a closed tree
 abbrev pub types_noted : ClosedStatements → List ClosedType

@@ -24,7 +24,7 @@ use Rattle.au_lowered.specs.Slots.{fields_in, fields_of_case, kept}
 
 -- ---- as many as names
 
-parameters_many : (slot : ℕ) (params : List Field) → length (parameter_homes slot params) ≡ length params
+pub parameters_many : (slot : ℕ) (params : List Field) → length (parameter_homes slot params) ≡ length params
 parameters_many slot [] = refl
 parameters_many slot (p ∷ rest) = let more = parameters_many (slot + 1) rest in omega (arith, more)
 
@@ -56,7 +56,7 @@ module _ {T C : Type 0} (fields : T → List Field) (cases : T → Bytes → Lis
     homes_many slot (discard at e) = refl
     homes_many slot (return_of at e) = refl
 
-    block_many : (slot : ℕ) (b : Statements Bytes T C) → length (homes_of_block fields cases slot b) ≡ names_in_block b
+    pub block_many : (slot : ℕ) (b : Statements Bytes T C) → length (homes_of_block fields cases slot b) ≡ names_in_block b
     block_many slot no_statements = refl
     block_many slot (statements s rest) =
         let one = homes_many slot s in
