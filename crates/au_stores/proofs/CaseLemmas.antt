@@ -14,12 +14,12 @@ use Rattle.au_cells.specs.Cells.{Apart, taken_apart, case_counted}
 -- a value that is no reference
 pub told_made : (value : Low) (one : Apart) (w : LowWorld) → Some one ≡ taken_apart value
     → Some ((one.tag, one.fields), spends one.birth w) ≡ told_apart value w
-told_made (made tag birth fields) one w is = cc
+told_made (made tag birth parts) one w is = cc
 told_made other one w is = absurd cc
 
 pub told_none : (value : Low) (w : LowWorld) → None ≡ taken_apart value → None ≡ reference_in value
     → None ≡ told_apart value w
-told_none (made tag birth fields) w none other = absurd cc
+told_none (made tag birth parts) w none other = absurd cc
 told_none (reference borrow place) w none other = absurd cc
 told_none value w none other = refl
 
@@ -32,7 +32,7 @@ told_reference other one w is = absurd cc
 -- what is told apart behind it, by what stands there
 abbrev told_of : ℕ × Place → LowWorld → Option Low → Option ((ℕ × List Low) × LowWorld)
 told_of one w held_value =
-    along (along held_value (λ value. Some (value, tells (used one.0) w)))
+    along {A = Low × LowWorld} (along held_value (λ value. Some (value, tells (used one.0) w)))
     (λ pair. along (case_behind one pair.0) (λ parts. Some (parts, pair.1)))
 
 -- the case of a value, and references to as many fields as it has
@@ -41,7 +41,7 @@ counted_behind one found = option_map (λ (c : ℕ × ℕ). (c.0, fields_behind 
 
 counted_is : (one : ℕ × Place) (value : Low)
     → case_behind one value ≡ counted_behind one (option_map case_counted (taken_apart value))
-counted_is one (made tag birth fields) = refl
+counted_is one (made tag birth parts) = refl
 counted_is one other = refl
 
 pub behind_none : (one : ℕ × Place) (w : LowWorld) → None ≡ at one.1 w → None ≡ told_apart (referring one) w
@@ -70,22 +70,22 @@ behind_made one w value tag count fields there found are =
 
 -- one more field
 fields_more : (one : ℕ × Place) (number count : ℕ)
-    → fields_behind one number (suc count)
-    ≡ fields_behind one number count ++ referring (reference_along one (number + count ∷ [])) ∷ []
+    → fields_behind {T = ℕ} one number (suc count)
+    ≡ fields_behind {T = ℕ} one number count ++ referring (reference_along one ((number + count) ∷ [])) ∷ []
 fields_more one number zero =
     let same : number ≡ number + zero = omega arith in
-    ap (λ n. referring (reference_along one (n ∷ [])) ∷ []) same
+    ap (λ n. referring {T = ℕ} (reference_along one (n ∷ [])) ∷ []) same
 fields_more one number (suc count) =
     let same : number + 1 + count ≡ number + suc count = omega arith in
     ap (λ (rest : List Low). referring (reference_along one (number ∷ [])) ∷ rest)
     (fields_more one (number + 1) count
-    ∙ ap (λ n. fields_behind one (number + 1) count ++ referring (reference_along one (n ∷ [])) ∷ []) same)
+    ∙ ap (λ n. fields_behind {T = ℕ} one (number + 1) count ++ referring (reference_along one (n ∷ [])) ∷ []) same)
 
 pub fields_next : (one : ℕ × Place) (count : ℕ)
-    → fields_behind one 0 (count + 1)
-    ≡ fields_behind one 0 count ++ referring (reference_along one (count ∷ [])) ∷ []
+    → fields_behind {T = ℕ} one 0 (count + 1)
+    ≡ fields_behind {T = ℕ} one 0 count ++ referring (reference_along one (count ∷ [])) ∷ []
 fields_next one count =
     let next : count + 1 ≡ suc count = omega arith in
     let same : 0 + count ≡ count = omega arith in
-    ap (fields_behind one 0) next ∙ fields_more one 0 count
-    ∙ ap (λ n. fields_behind one 0 count ++ referring (reference_along one (n ∷ [])) ∷ []) same
+    ap (fields_behind {T = ℕ} one 0) next ∙ fields_more one 0 count
+    ∙ ap (λ n. fields_behind {T = ℕ} one 0 count ++ referring (reference_along one (n ∷ [])) ∷ []) same

@@ -1,5 +1,4 @@
-use Rattle.std.proofs.Common.{◌≡◌, List, [], ◌∷◌, ◌++◌, ap, sym, ◌∙◌, arith}
-use Rattle.std.proofs.lemmas.Grind.{common_steps}
+use Rattle.std.proofs.Common.{List, [], ◌∷◌, ◌++◌, ap, sym, ◌∙◌}
 use Rattle.au_low.specs.Machines.{Low}
 use Rattle.au_cells.specs.Cells.{lows, lent}
 use Rattle.au_cells.proofs.CellLemmas.{lows_push}
@@ -12,8 +11,7 @@ loop-index-preserved c =
     let before = c.loop-index.fields.items in
     let index = c.loop-index.index in
     let one = lent c.args.one.now in
-    let pushed : c.push.new.self.items ≡ before ++ c.in_ok-field.field ∷ [] = grind (arith, common_steps) in
-    ap lows pushed ∙ lows_push before c.in_ok-field.field
+    ap lows c.in_ok-push.ensures.items ∙ lows_push before c.in_ok-field.field
     ∙ ap (λ (value : Low). lows before ++ value ∷ []) c.in_ok-field.ensures
     ∙ ap (λ (values : List Low). values ++ referring (reference_along one (index ∷ [])) ∷ [])
     c.loop-index.invariant
