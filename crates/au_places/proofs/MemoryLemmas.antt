@@ -3,12 +3,12 @@ use Rattle.std.proofs.Common.{◌≡◌, ℕ, Bool, true, false, List, [], if◌
 use Rattle.std.proofs.Common.{refl, sym, ap, subst, ◌∙◌}
 use Rattle.std.specs.Prelude.{Option, Some, None, option_map}
 use Rattle.au_effects.specs.Parts.{along, part, with_part}
-use Rattle.au_effects.specs.Values.{Base, Place, Value}
+use Rattle.au_effects.specs.Values.{Base, Fields, Place, Value, made}
 use Rattle.au_effects.proofs.PartLemmas.{part_put}
-use Rattle.au_places.specs.Places.{cell_of, covers, in_place, same_base}
-use Rattle.au_places.specs.Memories.{Memory, held_at, with_base, written}
+use Rattle.au_places.specs.Places.{cell_of, covers, in_node, in_place, same_base}
+use Rattle.au_places.specs.Memories.{Memory, held_at, later, with_base, written}
 use Rattle.au_places.proofs.PlaceLemmas.{self_base, base_is}
-use Rattle.au_places.proofs.PartLemmas.{part_apart}
+use Rattle.au_places.proofs.PartLemmas.{part_above, part_apart}
 
 same_cell : (to other : Place) → same_base other.base to.base ≡ true → in_place (cell_of to) other ≡ 0
     → covers 0 other.path to.path ≡ 0
@@ -70,3 +70,47 @@ module _ {T : Type 0} where
           (apart_in to.path other.path new (m.at to.base) (same_cell other to e k) (same_cell to other back h)
           ∙ ap (λ b. along (m.at b) (part other.path)) is)
       by false e = rw e
+
+  -- A value stands at a place that is of the same case, and whose fields from a number on are the same.
+  pub record StaysMadeAt (m : Memory T) (to : Place) (n tag : ℕ) (born : Option ℕ) (parts : Fields T) : Type 0 where
+    pub others : Fields T
+    pub there : held_at m to ≡ Some (made tag born others)
+    pub same : later n others ≡ later n parts
+
+  above_in : (n : ℕ) (p q : List ℕ) (new : Value T) (tag : ℕ) (born : Option ℕ) (parts : Fields T)
+      (o : Option (Value T)) → covers n q p ≡ 0 → covers 0 p q ≡ 0 → along o (part q) ≡ Some (made tag born parts)
+      → (others : Fields T) × (along (option_map (with_part p new) o) (part q) ≡ Some (made tag born others))
+      × (later n others ≡ later n parts)
+  above_in n p q new tag born parts None h k there = absurd cc
+  above_in n p q new tag born parts (Some v) h k there =
+      let above = part_above n p q new v tag born parts h k there in
+      (above.others, above.there, above.same)
+
+  -- a value of a case stays one where something is written in one of its first parts, or apart from it
+  pub write_above : (m : Memory T) (to other : Place) (n : ℕ) (new : Value T) (tag : ℕ) (born : Option ℕ)
+      (parts : Fields T) → in_node n (cell_of to) other ≡ 0 → in_place (cell_of other) to ≡ 0
+      → held_at m other ≡ Some (made tag born parts) → StaysMadeAt (written to new m) other n tag born parts
+  write_above m to other n new tag born parts h k there = by (same_base to.base other.base) refl
+    where
+      node : same_base other.base to.base ≡ true → covers n other.path to.path ≡ 0
+      node same =
+          let e : in_node n (cell_of to) other ≡ covers n other.path to.path = rw same in sym e ∙ h
+
+      by : (t : Bool) → same_base to.base other.base ≡ t → StaysMadeAt (written to new m) other n tag born parts
+      by true e =
+          let is = base_is to.base other.base e in
+          let back : same_base other.base to.base ≡ true =
+              subst (λ b. same_base b to.base ≡ true) is (self_base to.base) in
+          let there' : along (m.at to.base) (part other.path) ≡ Some (made tag born parts) =
+              subst (λ b. along (m.at b) (part other.path) ≡ Some (made tag born parts)) (sym is) there in
+          let above = above_in n to.path other.path new tag born parts (m.at to.base) (node back)
+              (same_cell other to e k) there' in
+          let at : (written to new m).at other.base ≡ option_map (with_part to.path new) (m.at to.base) = rw e in
+          record {
+            others = above.0;
+            there = ap (λ o. along o (part other.path)) at ∙ above.1;
+            same = above.2;
+          }
+      by false e =
+          let at : (written to new m).at other.base ≡ m.at other.base = rw e in
+          record { others = parts; there = ap (λ o. along o (part other.path)) at ∙ there; same = refl }

@@ -1,11 +1,12 @@
 -- Parts of values where a part of them is written.
-use Rattle.std.proofs.Common.{◌≡◌, ℕ, zero, suc, ◌==◌, Bool, true, false, List, [], ◌∷◌, ◌++◌}
+use Rattle.std.proofs.Common.{◌≡◌, ℕ, zero, suc, ◌<◌, nat_le, ◌==◌, Bool, true, false, List, [], ◌∷◌, ◌++◌}
 use Rattle.std.proofs.Common.{if◌then◌else◌, refl, sym, ap, subst, ◌∙◌, arith}
 use Rattle.std.specs.Prelude.{Option, Some, None}
-use Rattle.std.proofs.lemmas.Bool.{eq-eqb, eqb-true, eqb-false, le-leb}
+use Rattle.std.proofs.lemmas.Bool.{eq-eqb, eqb-true, eqb-false, le-leb, leb-false}
 use Rattle.au_effects.specs.Parts.{along, nth_field, field, part, with_nth, with_field, with_part}
 use Rattle.au_effects.specs.Values.{Value, Fields, made, no_fields, field_then}
 use Rattle.au_effects.proofs.PartLemmas.{field_changed}
+use Rattle.au_places.specs.Memories.{later}
 use Rattle.au_places.specs.Places.{covers, one_if}
 
 -- ---- parts that cover none of another
@@ -16,6 +17,13 @@ from_first i j p q h same = let e : (if i == j then covers 0 p q else 0) ≡ cov
 any_covers : (p : List ℕ) → covers 0 [] p ≡ 0 → ⊥
 any_covers [] h = absurd cc
 any_covers (j ∷ p) h = let most : one_if true ≡ 0 = ap one_if (sym (le-leb 0 j (omega arith))) ∙ h in absurd cc
+
+before_all : (n j : ℕ) → one_if (nat_le n j) ≡ 0 → j < n
+before_all n j h = by (nat_le n j) refl h
+  where
+    by : (t : Bool) → nat_le n j ≡ t → one_if t ≡ 0 → j < n
+    by true e h = absurd cc
+    by false e h = leb-false n j e
 
 module _ {T : Type 0} where
   -- ---- one part behind another
@@ -93,3 +101,75 @@ module _ {T : Type 0} where
   part_apart (i ∷ p) [] new v h k = absurd (any_covers (i ∷ p) k)
   part_apart (i ∷ p) (j ∷ q) new v h k =
       first_apart i j p q new v h k (λ h2 k2 w. part_apart p q new w h2 k2) (i == j) refl
+
+  -- ---- a part of what stands at the end of a path is written
+
+  -- fields behind one that is changed
+  later_same : (n j : ℕ) (change : Value T → Value T) (parts : Fields T) → j < n
+      → later n (with_nth j change parts) ≡ later n parts
+  later_same zero j change parts h = absurd (omega arith)
+  later_same (suc n) j change no_fields h = refl
+  later_same (suc n) zero change (field_then v rest) h = refl
+  later_same (suc n) (suc j) change (field_then v rest) h = later_same n j change rest (omega arith)
+
+  -- A value stands at the end of a path that is of the same case, and whose fields from a number on are the same.
+  pub record StaysMade (n : ℕ) (q : List ℕ) (v : Value T) (tag : ℕ) (born : Option ℕ) (parts : Fields T) : Type 0 where
+    pub others : Fields T
+    pub there : part q v ≡ Some (made tag born others)
+    pub same : later n others ≡ later n parts
+
+  -- a value of a case of which something below one of its first parts is written
+  below_made : (n j : ℕ) (p : List ℕ) (new v : Value T) (tag : ℕ) (born : Option ℕ) (parts : Fields T) → j < n
+      → part [] v ≡ Some (made tag born parts) → StaysMade n [] (with_part (j ∷ p) new v) tag born parts
+  below_made n j p new v tag born parts less h =
+      let is : v ≡ made tag born parts = cc in
+      record {
+        others = with_nth j (with_part p new) parts;
+        there = ap (λ w. Some (with_part (j ∷ p) new w)) is;
+        same = later_same n j (with_part p new) parts less;
+      }
+
+  -- the same in a field of which a part is written
+  in_field : (n i : ℕ) (p q : List ℕ) (new v : Value T) (tag : ℕ) (born : Option ℕ) (parts : Fields T)
+      (found : Option (Value T)) → field i v ≡ found → along found (part q) ≡ Some (made tag born parts)
+      → ((w : Value T) → part q w ≡ Some (made tag born parts) → StaysMade n q (with_part p new w) tag born parts)
+      → StaysMade n (i ∷ q) (with_field i (with_part p new) v) tag born parts
+  in_field n i p q new v tag born parts None is h more = absurd cc
+  in_field n i p q new v tag born parts (Some w) is h more =
+      let there = more w h in
+      record {
+        others = there.others;
+        there = ap (λ o. along o (part q)) (field_changed i (with_part p new) v w is) ∙ there.there;
+        same = there.same;
+      }
+
+  first_above : (n i j : ℕ) (p q : List ℕ) (new v : Value T) (tag : ℕ) (born : Option ℕ) (parts : Fields T)
+      → covers n (i ∷ q) (j ∷ p) ≡ 0 → covers 0 (j ∷ p) (i ∷ q) ≡ 0
+      → part (i ∷ q) v ≡ Some (made tag born parts)
+      → (covers n q p ≡ 0 → covers 0 p q ≡ 0 → (w : Value T) → part q w ≡ Some (made tag born parts)
+      → StaysMade n q (with_part p new w) tag born parts)
+      → (t : Bool) → (i == j) ≡ t → StaysMade n (i ∷ q) (with_part (j ∷ p) new v) tag born parts
+  first_above n i j p q new v tag born parts h k there more true e =
+      let same = eqb-true i j e in
+      let back : (j == i) ≡ true = eq-eqb j i (sym same) in
+      let inner : covers n q p ≡ 0 =
+          let c : (if i == j then covers n q p else 0) ≡ covers n q p = rw e in sym c ∙ h in
+      subst (λ c. StaysMade n (i ∷ q) (with_field c (with_part p new) v) tag born parts) same
+      (in_field n i p q new v tag born parts (field i v) refl there (more inner (from_first j i p q k back)))
+  first_above n i j p q new v tag born parts h k there more false e = record {
+    others = parts;
+    there = ap (λ o. along o (part q)) (field_other i j (with_part p new) v (λ same. eqb-false i j e same)) ∙ there;
+    same = refl;
+  }
+
+  -- a value of a case stays one where something is written in one of its first parts, or apart from it
+  pub part_above : (n : ℕ) (p q : List ℕ) (new v : Value T) (tag : ℕ) (born : Option ℕ) (parts : Fields T)
+      → covers n q p ≡ 0 → covers 0 p q ≡ 0 → part q v ≡ Some (made tag born parts)
+      → StaysMade n q (with_part p new v) tag born parts
+  part_above n [] [] new v tag born parts h k there = absurd (any_covers [] k)
+  part_above n [] (i ∷ q) new v tag born parts h k there = absurd (any_covers (i ∷ q) k)
+  part_above n (j ∷ p) [] new v tag born parts h k there =
+      below_made n j p new v tag born parts (before_all n j h) there
+  part_above n (j ∷ p) (i ∷ q) new v tag born parts h k there =
+      first_above n i j p q new v tag born parts h k there
+      (λ h2 k2 w there2. part_above n p q new w tag born parts h2 k2 there2) (i == j) refl

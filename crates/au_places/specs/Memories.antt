@@ -1,7 +1,7 @@
 -- What names, boxes and buffers hold, as functions; and what is written there.
-use Rattle.std.specs.Prelude.{ℕ, ◌==◌, List, Option, option_map, if◌then◌else◌}
+use Rattle.std.specs.Prelude.{ℕ, zero, suc, ◌==◌, List, Option, option_map, if◌then◌else◌}
 use Rattle.au_effects.specs.Parts.{along, part, with_part}
-use Rattle.au_effects.specs.Values.{Base, Place, Value}
+use Rattle.au_effects.specs.Values.{Base, Fields, Place, Value, no_fields, field_then}
 use Rattle.au_places.specs.Places.{same_base}
 
 -- A memory: the value of each name and of the content of each box, and the elements of each buffer.
@@ -10,6 +10,12 @@ pub record Memory (T : Type 0) : Type 0 where
   pub elements : ℕ → Option (List (Value T))
 
 module _ {T : Type 0} where
+  -- the fields of a value from a number on
+  abbrev pub later : ℕ → Fields T → Fields T
+  later zero parts = parts
+  later (suc n) no_fields = no_fields
+  later (suc n) (field_then value rest) = later n rest
+
   -- what a place holds
   abbrev pub held_at : Memory T → Place → Option (Value T)
   held_at m to = along (m.at to.base) (part to.path)

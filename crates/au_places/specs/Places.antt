@@ -26,8 +26,8 @@ same_base (name_of frame x) (name_of other y) = (frame == other) && (x == y)
 same_base (content_of i) (content_of j) = i == j
 same_base a b = false
 
--- Whether a path leads to the end of another or on from there, but not into one of so many first parts of what
--- stands there: 1 or 0. So with none left out a place covers itself and all its parts.
+-- Whether a path leads to the end of another or on from there, but not into one of so many first parts of
+-- what stands there: 1 or 0. So with none left out a place covers itself and all its parts.
 abbrev pub covers : ℕ → List ℕ → List ℕ → ℕ
 covers left_out [] [] = 1
 covers left_out [] (j ∷ p) = one_if (nat_le left_out j)
