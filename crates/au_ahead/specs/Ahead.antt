@@ -38,7 +38,8 @@ module _ (x : Bytes) (sort : Sort) where
     Ahead (conditional_else at bs b) h Q spent = AheadBranches bs h (λ s. AheadAll b h Q s) Q spent
     Ahead (case_of at e all) h Q spent = OnGood (does x sort (whole e) h spent) (λ s. AheadArms all h Q s)
     Ahead (while_loop at e b) h Q spent =
-        OnGood (does x sort (whole e) h spent) (λ s. (s ≡ spent) × AheadAll b h (λ t. t ≡ spent) spent × Q spent)
+        OnGood (does x sort (whole e) h spent)
+        (λ s. (s ≡ spent) × AheadAll b h (λ t. t ≡ spent) spent × Q spent)
     Ahead (for_loop at name a z b) h Q spent =
         OnGood (does x sort (whole a) h spent) (λ s. OnGood (does x sort (whole z) h s) (λ t.
         AheadAll b (held_from x (declared name.name ∷ []) h) (λ u. u ≡ t) t × Q t))

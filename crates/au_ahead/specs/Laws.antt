@@ -3,7 +3,8 @@ use Rattle.std.specs.Prelude.{◌≡◌, Bool, false}
 use Rattle.au_syntax.specs.Plain.{Bytes, PlainStatements}
 use Rattle.au_lives.specs.declared.lives.Sort.{Sort}
 use Rattle.au_lives.specs.Lives.{GoodLife, Hold, unlent, hidden, going, verdict}
-use Rattle.au_lives.specs.Mentions.{Counts, plus, one_consumption, one_write_borrow, one_read_borrow, one_look}
+use Rattle.au_lives.specs.Mentions.{Counts, plus, one_consumption, one_write_borrow, one_read_borrow}
+use Rattle.au_lives.specs.Mentions.{one_look}
 use Rattle.au_ahead.specs.Ahead.{AheadAll, Ends}
 use Rattle.au_ahead.specs.Ready.{Stand, away, ready, shut, watched, stand_of, Ready, IsOpen}
 

@@ -61,7 +61,7 @@ module _ (base : Base) (p q : List ℕ) where
     any_path (a_writer g) = refl
     any_path (a_reader g steps) = refl
 
-    any_paths : (all : Trees) → in_trees (cell base p) all ≡ in_trees (cell base q) all
+    pub any_paths : (all : Trees) → in_trees (cell base p) all ≡ in_trees (cell base q) all
     any_paths no_trees = refl
     any_paths (tree_then one rest) =
         let same = any_path one in
@@ -81,7 +81,7 @@ module _ (frame x : ℕ) (p : List ℕ) where
     no_name (a_writer g) = refl
     no_name (a_reader g steps) = refl
 
-    no_names : (all : Trees) → in_trees (cell (name_of frame x) p) all ≡ 0
+    pub no_names : (all : Trees) → in_trees (cell (name_of frame x) p) all ≡ 0
     no_names no_trees = refl
     no_names (tree_then one rest) =
         let none = no_name one in

@@ -13,7 +13,7 @@ use Rattle.au_memory.specs.Trees.{Value, Tree, Trees, a_plain, a_made, a_box, a_
 use Rattle.au_memory.specs.Trees.{a_writer, a_reader, no_trees, tree_then, in_birth, in_tree, in_trees}
 use Rattle.au_memory.specs.Loans.{Types, Table}
 use Rattle.au_memory.specs.Shown.{Shows, ShowsAll, ShowsEach}
-use Rattle.au_memory.proofs.CountLemmas.{any_path, content_in}
+use Rattle.au_memory.proofs.CountLemmas.{any_path, any_paths, content_in}
 
 module _ (m n : Memory (List ℕ)) where
   -- Two memories agree on what counts so often: on the contents of boxes and on the elements of buffers.
@@ -138,3 +138,15 @@ module _ (types : Types) (s : Table) (m : Memory (List ℕ)) where
       → Shows types s m v t → Shows types s (with_items j o m) v t
   shows_items j o t v none h =
       shows_frame types s m (with_items j o m) t v (agree_items m (λ id. in_tree id t) j o none) h
+
+  -- the same of the trees of fields
+  pub shows_all_base : (base : Base) (o : Option Value) (all : Trees) (parts : Fields (List ℕ))
+      → in_trees (cell base []) all ≡ 0 → ShowsAll types s m parts all → ShowsAll types s (with_base base o m) parts all
+  shows_all_base base o all parts none h =
+      shows_all_frame types s m (with_base base o m) all parts (agree_base m (λ id. in_trees id all) base o none) h
+
+  pub shows_all_written : (to : Place) (new : Value) (all : Trees) (parts : Fields (List ℕ))
+      → in_trees (cell_of to) all ≡ 0 → ShowsAll types s m parts all → ShowsAll types s (written to new m) parts all
+  shows_all_written to new all parts none h =
+      shows_all_base to.base (option_map (with_part to.path new) (m.at to.base)) all parts
+      (any_paths to.base [] to.path all ∙ none) h

@@ -5,3 +5,4 @@ pub mod FreeLemmas
 pub mod PointLemmas
 pub mod TotalLemmas
 pub mod UsableLemmas
+pub mod FormLemmas

@@ -13,7 +13,7 @@ use Rattle.au_memory.specs.Trees.{Tree, a_writer}
 use Rattle.au_memory.specs.Loans.{Types, Loan, Table, Via, named, lent_of, lent_through, part_of, reading}
 use Rattle.au_memory.specs.Loans.{IsLoan, IsWriter}
 use Rattle.au_memory.specs.Forests.{Held, Holds, Made, whole, all_lent, box_lent, parts_lent, watching}
-use Rattle.au_memory.specs.Forests.{shut, IsHere, IsPart, IsRooted, IsLent, NameStands, Core, Usable}
+use Rattle.au_memory.specs.Forests.{shut, IsHere, IsPart, IsRooted, Names, IsLent, NameStands, Core, Usable}
 use Rattle.au_memory.specs.Forests.{in_root, in_forest, in_list}
 use Rattle.au_memory.proofs.CountLemmas.{writer_in}
 use Rattle.au_memory.proofs.TotalLemmas.{total_has, total_two}
@@ -26,10 +26,9 @@ writer_is_loan (part_of k) w = tt
 writer_is_loan (reading k tree) w = absurd w
 
 -- what there is one of at least is there
-first_of_some : {A : Type 0} (xs : List A) (n : ℕ) → length xs ≡ n → 1 ≤ n
-    → (x : A) × (slice_get xs 0 ≡ Some x)
-first_of_some [] n e h = absurd (omega arith)
-first_of_some (x ∷ xs) n e h = (x, refl)
+pub first_of_some : {A : Type 0} (xs : List A) → 1 ≤ length xs → (x : A) × (slice_get xs 0 ≡ Some x)
+first_of_some [] h = absurd (omega arith)
+first_of_some (x ∷ xs) h = (x, refl)
 
 module _ (types : Types) (clock : ℕ) (scope act : ℕ → Bool) (hold : Holds) (type : ℕ → ℕ → Meaning)
     (under : Made) (s : Table) (m : Memory (List ℕ)) (core : Core types clock scope act hold type under s m) where
@@ -59,19 +58,12 @@ module _ (types : Types) (clock : ℕ) (scope act : ℕ → Bool) (hold : Holds)
       let same : own.row ≡ l = cc in
       subst (λ (r : Loan). r.via ≡ named) same own.is_named
 
-  module _ (g : ℕ) (l : Loan) (row : s g ≡ Some l) (writes : IsWriter l.via)
-      (held : 1 ≤ in_list (writer g) core.trees) where
+  -- A reference that is somewhere, and in no name that is shut.
+  module _ (g : ℕ) (l : Loan) (row : s g ≡ Some l) (writes : IsWriter l.via) (held : 1 ≤ count (writer g))
+      (open_held : (holder z : ℕ) (to : Place) → core.forest holder ≡ Some (whole to (a_writer g))
+      → Names hold core.root holder (λ h. h ≡ shut z) → ⊥) where
     not_named : l.via ≡ named → ⊥
     not_named e = subst IsWriter e writes
-
-    -- its reference would count twice
-    not_through : (holder : ℕ) (to : Place) → core.forest holder ≡ Some (whole to (a_writer g)) → ⊥
-    not_through holder to e =
-        let has = total_has (writer g) core.top holder core.forest (root_below holder (whole to (a_writer g)) e) in
-        let there = ap (in_root (writer g)) e in
-        let own = writer_in g in
-        let once = core.once (writer g) in
-        omega arith
 
     not_lent : (k z : ℕ) (via : Via) → (via ≡ lent_of g) ⊎ ((holder : ℕ) × (via ≡ lent_through holder g))
         → IsLent core.forest hold core.root count k z via → ⊥
@@ -80,7 +72,7 @@ module _ (types : Types) (clock : ℕ) (scope act : ℕ → Bool) (hold : Holds)
         not_named (name_row from.1.frame from.1.name g z l from.1.is from.1.holds row)
     not_lent k z via (inr pair) lent =
         let from = subst (λ v. IsLent core.forest hold core.root count k z v) pair.1 lent in
-        not_through pair.0 from.0 from.1
+        open_held pair.0 z from.0 from.1 from.3
 
     not_part : (k : ℕ) (to : Place) (t : Meaning) → IsPart types s core.forest m g k to t → ⊥
     not_part k to t part =
@@ -101,9 +93,11 @@ module _ (types : Types) (clock : ℕ) (scope act : ℕ → Bool) (hold : Holds)
     }
     by_rooted (all_lent k) e r = absurd (not_lent k r.0.token r.0.via r.4 (core.lent k r.0 r.1 r.5))
     by_rooted (box_lent to born k) e r = absurd (not_part k (content_place born) r.0 r.4)
-    by_rooted (parts_lent to tag born k n) e r =
-        let first = first_of_some r.0 n r.5 r.6 in
-        absurd (not_part (k + 0) (part_at 0 to) first.0 (r.8 0 first.0 first.1))
+    by_rooted (parts_lent to tag born k n rest) e r =
+        let some = r.5 in
+        let all = r.6 in
+        let first = first_of_some r.0 (omega arith) in
+        absurd (not_part (k + 0) (part_at 0 to) first.0 (r.10 0 first.0 (omega arith) first.1))
     by_rooted watching e r = absurd (subst IsWriter r.2 writes)
 
     by_held : (o : Option Held) → core.forest g ≡ o → IsHere o → Usable types s core.forest m g l
@@ -114,9 +108,23 @@ module _ (types : Types) (clock : ℕ) (scope act : ℕ → Bool) (hold : Holds)
         let same : r.0 ≡ l = cc in
         by_rooted h e (subst (λ n. IsRooted types s core.forest m g n h) same r.2)
 
-    pub usable : scope l.token ≡ true → Usable types s core.forest m g l
-    usable scoped =
+    pub usable_if : scope l.token ≡ true → Usable types s core.forest m g l
+    usable_if scoped =
         by_held (core.forest g) refl (core.live g l row (writer_is_loan l.via writes) scoped)
+
+  -- One that is under way lies in no name, since it would count twice.
+  pub usable : (g : ℕ) (l : Loan) → s g ≡ Some l → IsWriter l.via → 1 ≤ in_list (writer g) core.trees
+      → scope l.token ≡ true → Usable types s core.forest m g l
+  usable g l row writes held scoped = usable_if g l row writes (omega arith) once scoped
+    where
+      once : (holder z : ℕ) (to : Place) → core.forest holder ≡ Some (whole to (a_writer g))
+          → Names hold core.root holder (λ h. h ≡ shut z) → ⊥
+      once holder z to e whose =
+          let has = total_has (writer g) core.top holder core.forest (root_below holder (whole to (a_writer g)) e) in
+          let there = ap (in_root (writer g)) e in
+          let own = writer_in g in
+          let most = core.once (writer g) in
+          omega arith
 
   -- of two roots that are whole no place of the one is covered by the other's
   pub whole_apart : (g h : ℕ) (to at : Place) (t u : Tree) → (h ≡ g → ⊥) → core.forest g ≡ Some (whole to t)

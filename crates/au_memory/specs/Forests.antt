@@ -2,28 +2,28 @@
 -- write borrow takes the tree that it lends with it, so of all that lead to a place the one that may use
 -- it is the one root that has its tree.
 use Rattle.std.specs.Prelude.{◌≡◌, ◌⊎◌, ℕ, zero, suc, ◌+◌, ◌<◌, ◌≤◌, ◌==◌, Bool, true, List, [], ◌∷◌, length}
-use Rattle.std.specs.Prelude.{Option, Some, None, slice_get, if◌then◌else◌, is_some, not}
+use Rattle.std.specs.Prelude.{Option, Some, None, drop, slice_get, if◌then◌else◌, is_some, not}
 use Rattle.au_effects.specs.Values.{Fields, Place, made, box, name_of}
 use Rattle.au_effects.specs.References.{name_along}
-use Rattle.au_places.specs.Memories.{Memory, held_at}
+use Rattle.au_places.specs.Memories.{Memory, held_at, later}
 use Rattle.au_places.specs.Places.{Id, writer, in_node, in_place, content_place, part_at}
 use Rattle.au_types.specs.Types.{Meaning}
-use Rattle.au_memory.specs.Trees.{Value, Tree, a_writer, in_tree, in_birth}
+use Rattle.au_memory.specs.Trees.{Value, Tree, Trees, a_writer, in_tree, in_trees, in_birth}
 use Rattle.au_memory.specs.Loans.{Types, Via, named, lent_of, lent_through, part_of, reading, Loan, Table}
 use Rattle.au_memory.specs.Loans.{IsLoan, parent_of}
-use Rattle.au_memory.specs.Shown.{Shows, Has}
+use Rattle.au_memory.specs.Shown.{Shows, ShowsAll, Has, HasAll}
 
 -- ---- roots
 
 -- What a root holds: at a place a tree, whole; or all of it is lent, as this loan; or at a place lies a
--- box of which the content is lent; or at a place stands a value of a case whose parts, of which there are
--- some, are lent one by one, as so many loans from this one on. A root of a read borrow holds nothing: it
--- sees what another holds.
+-- box of which the content is lent; or at a place stands a value of a case whose first so many parts are
+-- lent, one by one, as loans from this one on, and the other parts are here. A root of a read borrow holds
+-- nothing: it sees what another holds.
 pub data Held : Type 0 where
   whole : Place → Tree → Held
   all_lent : (loan : ℕ) → Held
   box_lent : Place → (born loan : ℕ) → Held
-  parts_lent : Place → (tag : ℕ) (born : Option ℕ) (loan count : ℕ) → Held
+  parts_lent : Place → (tag : ℕ) (born : Option ℕ) (loan count : ℕ) → Trees → Held
   watching : Held
 
 -- roots by number: those of names that hold something, and of open loans
@@ -41,7 +41,8 @@ abbrev pub in_held : Id → Held → ℕ
 in_held id (whole to tree) = in_place id to + in_tree id tree
 in_held id (all_lent loan) = 0
 in_held id (box_lent to born loan) = in_place id to + in_birth id (Some born)
-in_held id (parts_lent to tag born loan count) = in_node count id to + in_birth id born
+in_held id (parts_lent to tag born loan count rest) =
+    in_node count id to + (in_birth id born + in_trees id rest)
 in_held id watching = 0
 
 abbrev pub in_root : Id → Option Held → ℕ
@@ -127,11 +128,12 @@ module _ (types : Types) (s : Table) (f : Forest) (m : Memory (List ℕ)) where
   IsRooted k l (box_lent to born g) =
       (of : Meaning) × (to ≡ l.to) × (types.boxed l.type ≡ Some of) × (held_at m to ≡ Some (box born))
       × IsPart k g (content_place born) of
-  IsRooted k l (parts_lent to tag born g count) =
+  IsRooted k l (parts_lent to tag born g count rest) =
       (of : List Meaning) × (parts : Fields (List ℕ)) × (to ≡ l.to) × (types.fields l.type tag ≡ Some of)
-      × (is_some born ≡ not (types.is_free l.type)) × (length of ≡ count) × (1 ≤ count)
+      × (is_some born ≡ not (types.is_free l.type)) × (1 ≤ count) × (count ≤ length of)
+      × HasAll types s rest (drop count of) × ShowsAll types s m (later count parts) rest
       × (held_at m to ≡ Some (made tag born parts))
-      × ((j : ℕ) (t : Meaning) → slice_get of j ≡ Some t → IsPart k (g + j) (part_at j to) t)
+      × ((j : ℕ) (t : Meaning) → j < count → slice_get of j ≡ Some t → IsPart k (g + j) (part_at j to) t)
   IsRooted k l watching = (from : ℕ) × (tree : Tree) × (l.via ≡ reading from tree) × Has types s tree l.type
 
 -- ---- what holds of each loan
@@ -139,7 +141,7 @@ module _ (types : Types) (s : Table) (f : Forest) (m : Memory (List ℕ)) where
 -- what a root holds is lent in parts, of which a loan is one
 abbrev pub IsPartLent : ℕ → Option Held → Type 0
 IsPartLent g (Some (box_lent to born other)) = g ≡ other
-IsPartLent g (Some (parts_lent to tag born first parts)) = (j : ℕ) × (j < parts) × (g ≡ first + j)
+IsPartLent g (Some (parts_lent to tag born first parts rest)) = (j : ℕ) × (j < parts) × (g ≡ first + j)
 IsPartLent g other = ⊥
 
 -- a name has this root, and stands so

@@ -99,6 +99,19 @@ pub record AreLawful (types : Types) : Type 0 where
   pub roots : (t : Meaning) → types.is_root t ≡ true → types.is_free t ≡ true → ⊥
   pub writers : (t : Meaning) (z : ℕ) → types.is_free (type.writes t (token z)) ≡ true → ⊥
 
+-- a type is one that is declared
+abbrev pub IsDeclared : Meaning → Type 0
+IsDeclared (type.named at args) = Unit {0}
+IsDeclared other = ⊥
+
+-- Only declared types have fields, or are those of boxes, buffers, the terminal and the root.
+pub record AreDeclared (types : Types) : Type 0 where
+  pub fields : (t : Meaning) (tag : ℕ) (of : List Meaning) → types.fields t tag ≡ Some of → IsDeclared t
+  pub boxes : (t of : Meaning) → types.boxed t ≡ Some of → IsDeclared t
+  pub buffers : (t of : Meaning) → types.buffered t ≡ Some of → IsDeclared t
+  pub terminals : (t : Meaning) → types.is_terminal t ≡ true → IsDeclared t
+  pub roots : (t : Meaning) → types.is_root t ≡ true → IsDeclared t
+
 -- At a point stands a value, which its tree shows, and the tree has its type.
 pub record Stands (types : Types) (s : Table) (m : Memory (List ℕ)) (one : Point) : Type 0 where
   pub value : Value

@@ -24,8 +24,8 @@ pub fn points_stand()
     ensures { PointsStand }
 {}
 
-/// A write reference that is held may be used while its token is in scope, and no two of them lead to places of
-/// which one covers the other.
+/// A write reference that is held may be used while its token is in scope, and no two of them lead to places
+/// of which one covers the other.
 pub fn held_loans_are_usable()
     ensures usable { (types : Types) (clock : ℕ) (scope act : ℕ → Bool) (hold : Holds)
         (type : ℕ → ℕ → Meaning) (under : Made) (s : Table) (m : Memory (List ℕ))
