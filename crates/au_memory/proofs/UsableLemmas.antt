@@ -74,8 +74,8 @@ module _ (types : Types) (clock : ℕ) (scope act : ℕ → Bool) (hold : Holds)
         let from = subst (λ v. IsLent core.forest hold core.root count k z v) pair.1 lent in
         open_held pair.0 z from.0 from.1 from.3
 
-    not_part : (k : ℕ) (to : Place) (t : Meaning) → IsPart types s core.forest m g k to t → ⊥
-    not_part k to t part =
+    not_part : (k y : ℕ) (to : Place) (t : Meaning) → IsPart types s core.forest m g y k to t → ⊥
+    not_part k y to t part =
         let lent = core.lent k part.row part.has part.is_open in
         let from = subst (λ v. IsLent core.forest hold core.root count k part.row.token v) part.from lent in
         let none = from.1 in
@@ -92,12 +92,12 @@ module _ (types : Types) (clock : ℕ) (scope act : ℕ → Bool) (hold : Holds)
       shown = r.4;
     }
     by_rooted (all_lent k) e r = absurd (not_lent k r.0.token r.0.via r.4 (core.lent k r.0 r.1 r.5))
-    by_rooted (box_lent to born k) e r = absurd (not_part k (content_place born) r.0 r.4)
+    by_rooted (box_lent to born k) e r = absurd (not_part k l.token (content_place born) r.0 r.4)
     by_rooted (parts_lent to tag born k n rest) e r =
         let some = r.5 in
         let all = r.6 in
         let first = first_of_some r.0 (omega arith) in
-        absurd (not_part (k + 0) (part_at 0 to) first.0 (r.10 0 first.0 (omega arith) first.1))
+        absurd (not_part (k + 0) l.token (part_at 0 to) first.0 (r.10 0 first.0 (omega arith) first.1))
     by_rooted watching e r = absurd (subst IsWriter r.2 writes)
 
     by_held : (o : Option Held) → core.forest g ≡ o → IsHere o → Usable types s core.forest m g l

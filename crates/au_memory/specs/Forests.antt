@@ -109,10 +109,11 @@ abbrev pub LendsAll : Via → ℕ → Type 0
 LendsAll via k = (via ≡ lent_of k) ⊎ ((holder : ℕ) × (via ≡ lent_through holder k))
 
 module _ (types : Types) (s : Table) (f : Forest) (m : Memory (List ℕ)) where
-  -- a loan is a part of a root, lent there with this place and type, and open
-  pub record IsPart (k g : ℕ) (to : Place) (t : Meaning) : Type 0 where
+  -- a loan is a part of a root, lent there for this token, with this place and type, and open
+  pub record IsPart (k z g : ℕ) (to : Place) (t : Meaning) : Type 0 where
     pub row : Loan
     pub has : s g ≡ Some row
+    pub of_token : row.token ≡ z
     pub at : row.to ≡ to
     pub typed : row.type ≡ t
     pub from : row.via ≡ part_of k
@@ -127,13 +128,14 @@ module _ (types : Types) (s : Table) (f : Forest) (m : Memory (List ℕ)) where
       (n : Loan) × (s g ≡ Some n) × (n.to ≡ l.to) × (n.type ≡ l.type) × LendsAll n.via k × IsHere (f g)
   IsRooted k l (box_lent to born g) =
       (of : Meaning) × (to ≡ l.to) × (types.boxed l.type ≡ Some of) × (held_at m to ≡ Some (box born))
-      × IsPart k g (content_place born) of
+      × IsPart k l.token g (content_place born) of
   IsRooted k l (parts_lent to tag born g count rest) =
       (of : List Meaning) × (parts : Fields (List ℕ)) × (to ≡ l.to) × (types.fields l.type tag ≡ Some of)
       × (is_some born ≡ not (types.is_free l.type)) × (1 ≤ count) × (count ≤ length of)
       × HasAll types s rest (drop count of) × ShowsAll types s m (later count parts) rest
       × (held_at m to ≡ Some (made tag born parts))
-      × ((j : ℕ) (t : Meaning) → j < count → slice_get of j ≡ Some t → IsPart k (g + j) (part_at j to) t)
+      × ((j : ℕ) (t : Meaning) → j < count → slice_get of j ≡ Some t
+      → IsPart k l.token (g + j) (part_at j to) t)
   IsRooted k l watching = (from : ℕ) × (tree : Tree) × (l.via ≡ reading from tree) × Has types s tree l.type
 
 -- ---- what holds of each loan
