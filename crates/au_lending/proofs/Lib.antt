@@ -1,0 +1,16 @@
+pub mod RowLemmas
+pub mod MoveLemmas
+pub mod MentionLemmas
+pub mod FillLemmas
+pub mod LendLemmas
+pub mod NameLendLemmas
+pub mod ValueLemmas
+pub mod RebornLemmas
+pub mod SwapLemmas
+pub mod TokenLemmas
+pub mod EndLemmas
+pub mod ReadLemmas
+pub mod RemadeLemmas
+pub mod PartLemmas
+pub mod ContentLemmas
+pub mod CaseLemmas
