@@ -14,3 +14,5 @@ pub mod RemadeLemmas
 pub mod PartLemmas
 pub mod ContentLemmas
 pub mod CaseLemmas
+pub mod RejoinLemmas
+pub mod RecordLemmas

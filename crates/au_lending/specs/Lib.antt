@@ -1,3 +1,4 @@
 pub mod Holding
 pub mod Laws
 pub mod Parting
+pub mod Records

@@ -1,14 +1,14 @@
 -- A value of a case behind a write reference is taken apart.
-use Rattle.std.specs.Prelude.{◌≡◌, ℕ, suc, ◌+◌, Bool, true, List, [], ◌∷◌, Option, Some}
+use Rattle.std.specs.Prelude.{◌≡◌, ℕ, suc, ◌+◌, ◌≤◌, Bool, true, false, List, [], ◌∷◌, Option, Some}
 use Rattle.au_effects.specs.Values.{Fields, Place, made, reference}
 use Rattle.au_places.specs.Memories.{Memory, held_at}
-use Rattle.au_places.specs.Places.{birth, part_at}
+use Rattle.au_places.specs.Places.{Id, birth, part_at}
 use Rattle.au_running_types.specs.Running.{token}
 use Rattle.au_types.specs.Types.{Meaning, writes}
-use Rattle.au_memory.specs.Forests.{Core, Holds, Made, in_forest, in_list}
-use Rattle.au_memory.specs.Loans.{Types, Loan, Table}
+use Rattle.au_memory.specs.Forests.{Core, Holds, IsHere, Made, whole, in_forest, in_list}
+use Rattle.au_memory.specs.Loans.{Types, Loan, Table, part_of}
 use Rattle.au_memory.specs.Shown.{AreDeclared}
-use Rattle.au_memory.specs.Trees.{Value}
+use Rattle.au_memory.specs.Trees.{Tree, Value}
 use Rattle.au_lending.specs.Holding.{with_row}
 use Rattle.au_lending.specs.Laws.{part_row}
 
@@ -64,3 +64,24 @@ module _ (types : Types) (clock : ℕ) (scope act : ℕ → Bool) (hold : Holds)
   PartsAreLent =
       AreDeclared types → CasesAreAlone types → (tag : ℕ) (of : List Meaning)
       → types.fields t tag ≡ Some of → scope z ≡ true → PartsLent
+
+module _ (types : Types) (clock : ℕ) (scope act : ℕ → Bool) (hold : Holds) (type : ℕ → ℕ → Meaning)
+    (under : Made) (s : Table) (m : Memory (List ℕ))
+    (core : Core types clock scope act hold type under s m) where
+  -- A part that was lent has gone back: it is no loan any more, the others that are open were so, and
+  -- everything counts as it did.
+  pub record Rejoined (g : ℕ) : Type 0 where
+    pub after : Core types clock scope act hold type under s m
+    pub were : (j : ℕ) → IsHere (after.forest j) → (g ≡ j → ⊥) × IsHere (core.forest j)
+    pub counts : (id : Id)
+        → in_forest id after.top after.forest + in_list id after.trees
+        ≡ in_forest id core.top core.forest + in_list id core.trees
+
+  -- So it may when it is whole, its token isn't in scope, and it is the newest part of its parent that is
+  -- still lent.
+  abbrev pub PartsRejoin : Type 0
+  PartsRejoin =
+      (g : ℕ) (l : Loan) (tree : Tree) (k : ℕ) → s g ≡ Some l → core.forest g ≡ Some (whole l.to tree)
+      → l.via ≡ part_of k → scope l.token ≡ false
+      → ((j : ℕ) (n : Loan) → s j ≡ Some n → n.via ≡ part_of k → IsHere (core.forest j) → j ≤ g)
+      → Rejoined g

@@ -12,7 +12,8 @@ ghost use Rattle.au_lending.specs.Laws.{Begun, Dropped, FreeValuesPush, LoansEnd
 ghost use Rattle.au_lending.specs.Laws.{NamesAreRead};
 ghost use Rattle.au_lending.specs.Laws.{NamesFill, NamesLend};
 ghost use Rattle.au_lending.specs.Laws.{ReferencesLend, ReferencesSwap};
-ghost use Rattle.au_lending.specs.Parting.{PartsAreLent};
+ghost use Rattle.au_lending.specs.Parting.{PartsAreLent, PartsRejoin};
+ghost use Rattle.au_lending.specs.Records.{onto, RecordsAreMade, RecordsOpen};
 
 /// A consuming mention moves the value out of a name that is ready.
 pub fn mentions_empty()
@@ -117,4 +118,24 @@ pub fn parts_are_lent()
         (r : Value) (t : Meaning) (z : ℕ) (under : Made) (s : Table) (m : Memory (List ℕ))
         (core : Core types clock scope act hold type ((r, writes t (token z)) ∷ under) s m)
         → PartsAreLent types clock scope act hold type r t z under s m core }
+{}
+
+/// A part whose token isn't in scope any more goes back, the newest of its parent first.
+pub fn parts_rejoin()
+    ensures { (types : Types) (clock : ℕ) (scope act : ℕ → Bool) (hold : Holds) (type : ℕ → ℕ → Meaning)
+        (under : Made) (s : Table) (m : Memory (List ℕ))
+        (core : Core types clock scope act hold type under s m)
+        → PartsRejoin types clock scope act hold type under s m core }
+{}
+
+/// A value of a record or a union is made of the newest values, and taken apart.
+pub fn records_are_made_and_opened()
+    ensures made { (types : Types) (clock : ℕ) (scope act : ℕ → Bool) (hold : Holds)
+        (type : ℕ → ℕ → Meaning) (vs under : Made) (s : Table) (m : Memory (List ℕ))
+        (core : Core types clock scope act hold type (onto vs under) s m)
+        → RecordsAreMade types clock scope act hold type vs under s m core }
+    ensures opened { (types : Types) (clock : ℕ) (scope act : ℕ → Bool) (hold : Holds)
+        (type : ℕ → ℕ → Meaning) (v : Value) (t : Meaning) (under : Made) (s : Table) (m : Memory (List ℕ))
+        (core : Core types clock scope act hold type ((v, t) ∷ under) s m)
+        → RecordsOpen types clock scope act hold type v t under s m core }
 {}
