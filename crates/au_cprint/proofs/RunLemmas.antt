@@ -130,9 +130,9 @@ operands_alike x y (within p is ip) (run b q js jb jq) c d t s e f h =
     by k = omega (arith, same_first k, jb)
 operands_alike x y (within p is ip) (within q js jq) c d t s e f h =
     let whole : 34 ∷ ((p ++ 34 ∷ []) ++ c ∷ t) ≡ 34 ∷ ((q ++ 34 ∷ []) ++ d ∷ s) =
-        ap (λ l. l ++ c ∷ t) (sym is) ∙ h ∙ ap (λ l. l ++ d ∷ s) js in
+    ap (λ l. l ++ c ∷ t) (sym is) ∙ h ∙ ap (λ l. l ++ d ∷ s) js in
     let inner = quotes_alike p q (c ∷ t) (d ∷ s) ip jq
-        (sym (append_assoc p (34 ∷ []) (c ∷ t)) ∙ same_rest whole ∙ append_assoc q (34 ∷ []) (d ∷ s)) in
+    (sym (append_assoc p (34 ∷ []) (c ∷ t)) ∙ same_rest whole ∙ append_assoc q (34 ∷ []) (d ∷ s)) in
     (is ∙ ap quoted inner.0 ∙ sym js, same_rest inner.1)
 
 -- the same where the one list is empty: an operand begins with no parenthesis
@@ -167,8 +167,8 @@ further_alike (o ∷ os) (p ∷ ps) u v a b h =
     let x = operand_text o in
     let y = operand_text p in
     let one = operands_alike x y a.0 b.0 c d t s e f
-        (ap (λ l. x ++ l) (sym left) ∙ sym (append_assoc x (flat_map further os) (41 ∷ u))
-        ∙ same_rest (same_rest h) ∙ append_assoc y (flat_map further ps) (41 ∷ v) ∙ ap (λ l. y ++ l) right) in
+    (ap (λ l. x ++ l) (sym left) ∙ sym (append_assoc x (flat_map further os) (41 ∷ u))
+    ∙ same_rest (same_rest h) ∙ append_assoc y (flat_map further ps) (41 ∷ v) ∙ ap (λ l. y ++ l) right) in
     let more = further_alike os ps u v a.1 b.1 (left ∙ one.1 ∙ sym right) in
     (same_texts one.0 more.0, more.1)
 
@@ -191,9 +191,9 @@ pub applied_alike : (w x : List ℕ) (os ps : List Operand) (u v : List ℕ) →
     → (w ≡ x) × (texts_of os ≡ texts_of ps) × (u ≡ v)
 applied_alike w x os ps u v iw ix a b h =
     let whole : w ++ 40 ∷ (joined os ++ 41 ∷ u) ≡ x ++ 40 ∷ (joined ps ++ 41 ∷ v) =
-        sym (spread_out w os u) ∙ h ∙ spread_out x ps v in
+    sym (spread_out w os u) ∙ h ∙ spread_out x ps v in
     let one = words_alike w x (joined os ++ 41 ∷ u) (joined ps ++ 41 ∷ v) 40 40 iw ix (omega arith) (omega arith)
-        whole in
+    whole in
     let more = joined_alike os ps u v a b (same_rest one.1) in
     (one.0, more.0, more.1)
   where

@@ -424,9 +424,12 @@ instruction_in word ts =
     if bytes_eq word (codes "CONVERT") then instr.Convert (kind_in (nth 0 ts)) else
     if bytes_eq word (codes "JUMP") then instr.Jump (label_in (nth 0 ts)) else
     if bytes_eq word (codes "JUMPNOT") then instr.JumpNot (label_in (nth 0 ts)) else
-    if bytes_eq word (codes "FORTEST") then instr.ForTest (value_in (nth 0 ts)) (value_in (nth 1 ts)) (label_in (nth 2 ts)) else
-    if bytes_eq word (codes "FORSTEP") then instr.ForStep (value_in (nth 0 ts)) (value_in (nth 1 ts)) (label_in (nth 2 ts)) else
-    if bytes_eq word (codes "MAKE") then made_in (value_in (nth 0 ts)) (value_in (nth 1 ts)) (order_in (drop 2 ts)) (home_in (drop 2 ts)) else
+    if bytes_eq word (codes "FORTEST")
+    then instr.ForTest (value_in (nth 0 ts)) (value_in (nth 1 ts)) (label_in (nth 2 ts)) else
+    if bytes_eq word (codes "FORSTEP")
+    then instr.ForStep (value_in (nth 0 ts)) (value_in (nth 1 ts)) (label_in (nth 2 ts)) else
+    if bytes_eq word (codes "MAKE")
+    then made_in (value_in (nth 0 ts)) (value_in (nth 1 ts)) (order_in (drop 2 ts)) (home_in (drop 2 ts)) else
     if bytes_eq word (codes "TAKE") then instr.Take (value_in (nth 0 ts)) else
     if bytes_eq word (codes "CASE") then instr.Case (value_in (nth 0 ts)) (labels_in (drop 1 ts)) else
     if bytes_eq word (codes "CALL") then instr.Call (value_in (nth 0 ts)) (values_in (drop 1 ts)) else
@@ -485,7 +488,8 @@ shipped_is call None order h c e =
     ∙ two (λ x y. instr.Shipped x None y) e (order_alone order h)
 shipped_is call (Some of) order h c e =
     let os = numbers order ++ name (call_home call) ∷ [] in
-    ap (shipped_in c (decimal of ∷ texts_of os)) (home_is (of ∷ order) (name (call_home call) ∷ []) h ∙ home_there (call_home call))
+    ap (shipped_in c (decimal of ∷ texts_of os))
+    (home_is (of ∷ order) (name (call_home call) ∷ []) h ∙ home_there (call_home call))
     ∙ three (λ x y z. instr.Shipped x (Some y) z) e (value_is of h.0)
     (order_is order (name (call_home call) ∷ []) h.1 (no_order (call_home call)))
 
@@ -509,9 +513,12 @@ instruction_is instr.Not h = refl
 instruction_is (instr.Convert kind) h = ap instr.Convert (kind_is kind)
 instruction_is (instr.Jump to) h = ap instr.Jump (label_is to h.0)
 instruction_is (instr.JumpNot to) h = ap instr.JumpNot (label_is to h.0)
-instruction_is (instr.ForTest counter last to) h = three instr.ForTest (value_is counter h.0) (value_is last h.1.0) (label_is to h.1.1.0)
-instruction_is (instr.ForStep counter last to) h = three instr.ForStep (value_is counter h.0) (value_is last h.1.0) (label_is to h.1.1.0)
-instruction_is (instr.Make of tag order home) h = made_is of tag order home h (value_in (decimal of)) (value_in (decimal tag)) (value_is of h.0) (value_is tag h.1.0)
+instruction_is (instr.ForTest counter last to) h =
+    three instr.ForTest (value_is counter h.0) (value_is last h.1.0) (label_is to h.1.1.0)
+instruction_is (instr.ForStep counter last to) h =
+    three instr.ForStep (value_is counter h.0) (value_is last h.1.0) (label_is to h.1.1.0)
+instruction_is (instr.Make of tag order home) h =
+    made_is of tag order home h (value_in (decimal of)) (value_in (decimal tag)) (value_is of h.0) (value_is tag h.1.0)
 instruction_is (instr.Take slot) h = ap instr.Take (value_is slot h.0)
 instruction_is (instr.Case slot targets) h = two instr.Case (value_is slot h.0) (labels_are targets h.1)
 instruction_is (instr.Call function order) h = two instr.Call (value_is function h.0) (values_are order h.1)

@@ -45,8 +45,8 @@ module _ {A : Type 0} (text : ℕ → A → List ℕ) (Told : A → Type 0) (beg
       ∙ ap begins (sym (append_assoc (text n x) (numbered text (n + 1) xs) u) ∙ h) ∙ b))
   numbered_alike n (x ∷ xs) (y ∷ ys) u v p q a b h =
       let one = alike n x y (numbered text (n + 1) xs ++ u) (numbered text (n + 1) ys ++ v) p.0 q.0
-          (sym (append_assoc (text n x) (numbered text (n + 1) xs) u) ∙ h
-          ∙ append_assoc (text n y) (numbered text (n + 1) ys) v) in
+      (sym (append_assoc (text n x) (numbered text (n + 1) xs) u) ∙ h
+      ∙ append_assoc (text n y) (numbered text (n + 1) ys) v) in
       let more = numbered_alike (n + 1) xs ys u v p.1 q.1 a b one.1 in
       (ap (λ z. z ∷ xs) one.0 ∙ ap (λ zs. y ∷ zs) more.0, more.1)
 
@@ -61,7 +61,7 @@ lines_alike : (w : List ℕ) (o : Operand) (os ps : List Operand) (u v : List �
     → line w (o ∷ os) ++ u ≡ line w (o ∷ ps) ++ v → (texts_of os ≡ texts_of ps) × (u ≡ v)
 lines_alike w o os ps u v a b h =
     let both = line_alike w o os ps (10 ∷ u) (10 ∷ v) a b
-        (sym (line_apart w (o ∷ os) u) ∙ h ∙ line_apart w (o ∷ ps) v) in
+    (sym (line_apart w (o ∷ os) u) ∙ h ∙ line_apart w (o ∷ ps) v) in
     (both.0, same_rest both.1)
 
 -- the first of some texts, the second and the third
@@ -78,9 +78,19 @@ octal_parts b = omega arith
 
 octals_unquoted : (bytes : List ℕ) → IsUnquoted (flat_map octal bytes)
 octals_unquoted [] = tt
-octals_unquoted (b ∷ bytes) =
-    (λ e. omega (arith, e), (λ e. omega (arith, e), (λ e. omega (arith, e), (λ e. omega (arith, e),
-    octals_unquoted bytes))))
+octals_unquoted (b ∷ bytes) = (
+  λ e. omega (arith, e),
+  (
+    λ e. omega (arith, e),
+    (
+      λ e. omega (arith, e),
+      (
+        λ e. omega (arith, e),
+        octals_unquoted bytes,
+      ),
+    ),
+  ),
+)
 
 same_octal : (a b : ℕ) → a / 64 ≡ b / 64 → a / 8 % 8 ≡ b / 8 % 8 → a % 8 ≡ b % 8 → a ≡ b
 same_octal a b e f g =
@@ -112,10 +122,11 @@ texts_alike : (n : ℕ) (x y u v : List ℕ) → IsToldText x → IsToldText y
 unfolding second_text
 texts_alike n x y u v a b h =
     let both = lines_alike (codes "TEXT") (number n) (number (length x) ∷ name (flat_map octal x) ∷ [])
-        (number (length y) ∷ name (flat_map octal y) ∷ []) u v (text_operands x a) (text_operands y b) h in
-    (same_octals x y
-    (sym (name_is (flat_map octal x)) ∙ ap (λ ts. name_in (second_text ts)) both.0 ∙ name_is (flat_map octal y)),
-    both.1)
+    (number (length y) ∷ name (flat_map octal y) ∷ []) u v (text_operands x a) (text_operands y b) h in (
+      same_octals x y
+          (sym (name_is (flat_map octal x)) ∙ ap (λ ts. name_in (second_text ts)) both.0 ∙ name_is (flat_map octal y)),
+      both.1,
+    )
 
 -- ---- types
 
@@ -138,12 +149,13 @@ types_alike : (n : ℕ) (x y : LowType) (u v : List ℕ) → IsToldType x → Is
 unfolding first_text second_text
 types_alike n x y u v a b h =
     let both = lines_alike (codes "TYPE") (number n) (name x.text ∷ name x.«module» ∷ plain (flag x.linear) ∷ [])
-        (name y.text ∷ name y.«module» ∷ plain (flag y.linear) ∷ []) u v (type_operands x a) (type_operands y b) h in
-    (same_type x y
-    (sym (name_is x.text) ∙ ap (λ ts. name_in (first_text ts)) both.0 ∙ name_is y.text)
-    (sym (name_is x.«module») ∙ ap (λ ts. name_in (second_text ts)) both.0 ∙ name_is y.«module»)
-    (sym (flag_is x.linear) ∙ ap (λ ts. flag_in (get_or ts 2 [])) both.0 ∙ flag_is y.linear),
-    both.1)
+    (name y.text ∷ name y.«module» ∷ plain (flag y.linear) ∷ []) u v (type_operands x a) (type_operands y b) h in (
+      same_type x y
+          (sym (name_is x.text) ∙ ap (λ ts. name_in (first_text ts)) both.0 ∙ name_is y.text)
+          (sym (name_is x.«module») ∙ ap (λ ts. name_in (second_text ts)) both.0 ∙ name_is y.«module»)
+          (sym (flag_is x.linear) ∙ ap (λ ts. flag_in (get_or ts 2 [])) both.0 ∙ flag_is y.linear),
+      both.1,
+    )
 
 -- ---- instructions
 
@@ -155,11 +167,11 @@ instructions_alike : (n : ℕ) (i j : Instr) (u v : List ℕ) → IsToldInstruct
     → instruction_line n i ++ u ≡ instruction_line n j ++ v → (i ≡ j) × (u ≡ v)
 instructions_alike n i j u v a b h =
     let inner : instruction_text i ++ 59 ∷ 10 ∷ u ≡ instruction_text j ++ 59 ∷ 10 ∷ v =
-        same_rest (same_rest (append_cancel_left (label_text n) _ _
-        (sym (spread_out i u) ∙ h ∙ spread_out j v))) in
+    same_rest (same_rest (append_cancel_left (label_text n) _ _
+    (sym (spread_out i u) ∙ h ∙ spread_out j v))) in
     let all = applied_alike (application i).0 (application j).0 (application i).1 (application j).1
-        (59 ∷ 10 ∷ u) (59 ∷ 10 ∷ v) (word_inner i) (word_inner j)
-        (told_operands (application i).1 a (are_words i)) (told_operands (application j).1 b (are_words j)) inner in
+    (59 ∷ 10 ∷ u) (59 ∷ 10 ∷ v) (word_inner i) (word_inner j)
+    (told_operands (application i).1 a (are_words i)) (told_operands (application j).1 b (are_words j)) inner in
     (same_instruction i j a b all.0 all.1, same_rest (same_rest all.2))
   where
     spread_out : (i : Instr) (u : List ℕ) → instruction_line n i ++ u
@@ -210,19 +222,20 @@ functions_alike : (n : ℕ) (x y : Function) (u v : List ℕ) → IsToldFunction
 unfolding first_text second_text
 functions_alike n x y u v a b h =
     let head = lines_alike (codes "FUNCTION") (number n) (number x.params ∷ number x.slots ∷ [])
-        (number y.params ∷ number y.slots ∷ []) (body_text n x ++ u) (body_text n y ++ v) (head_operands x a)
-        (head_operands y b)
-        (sym (append_assoc (head_line n x) (body_text n x) u) ∙ h ∙ append_assoc (head_line n y) (body_text n y) v)
-        in
+    (number y.params ∷ number y.slots ∷ []) (body_text n x ++ u) (body_text n y ++ v) (head_operands x a)
+    (head_operands y b)
+    (sym (append_assoc (head_line n x) (body_text n x) u) ∙ h ∙ append_assoc (head_line n y) (body_text n y) v)
+    in
     let inner = numbered_alike instruction_line IsToldInstruction (first_is 76) line_starts instructions_alike 0
-        x.code y.code (end_line n ++ u) (end_line n ++ v) a.code b.code (no_instruction n u) (no_instruction n v)
-        (sym (append_assoc (numbered instruction_line 0 x.code) (end_line n) u) ∙ head.1
-        ∙ append_assoc (numbered instruction_line 0 y.code) (end_line n) v) in
-    (same_function x y
-    (sym (value_is x.params a.params) ∙ ap (λ ts. value_in (first_text ts)) head.0 ∙ value_is y.params b.params)
-    (sym (value_is x.slots a.slots) ∙ ap (λ ts. value_in (second_text ts)) head.0 ∙ value_is y.slots b.slots)
-    inner.0,
-    append_cancel_left (end_line n) u v inner.1)
+    x.code y.code (end_line n ++ u) (end_line n ++ v) a.code b.code (no_instruction n u) (no_instruction n v)
+    (sym (append_assoc (numbered instruction_line 0 x.code) (end_line n) u) ∙ head.1
+    ∙ append_assoc (numbered instruction_line 0 y.code) (end_line n) v) in (
+      same_function x y
+          (sym (value_is x.params a.params) ∙ ap (λ ts. value_in (first_text ts)) head.0 ∙ value_is y.params b.params)
+          (sym (value_is x.slots a.slots) ∙ ap (λ ts. value_in (second_text ts)) head.0 ∙ value_is y.slots b.slots)
+          inner.0,
+      append_cancel_left (end_line n) u v inner.1,
+    )
 
 -- ---- code
 
@@ -318,14 +331,14 @@ no_entry root = refl
 lines_tell : (x y : Code) → IsToldCode x → IsToldCode y → lines_of x ≡ lines_of y → x ≡ y
 lines_tell x y a b h =
     let texts = numbered_alike text_line IsToldText (two_are 84 69) text_starts texts_alike 0 x.texts y.texts
-        (after_texts x) (after_texts y) a.texts b.texts (no_text x) (no_text y) h in
+    (after_texts x) (after_texts y) a.texts b.texts (no_text x) (no_text y) h in
     let types = numbered_alike type_line IsToldType (two_are 84 89) type_starts types_alike 0 x.types y.types
-        (after_types x) (after_types y) a.types b.types (no_type x) (no_type y) texts.1 in
+    (after_types x) (after_types y) a.types b.types (no_type x) (no_type y) texts.1 in
     let declared = declarations_alike 0 x.functions y.functions (after_declarations x) (after_declarations y)
-        (no_declaration x) (no_declaration y) types.1 in
+    (no_declaration x) (no_declaration y) types.1 in
     let functions = numbered_alike function_text IsToldFunction (two_are 70 85) function_starts functions_alike 0
-        x.functions y.functions (entry_line x.root) (entry_line y.root) a.functions b.functions (no_entry x.root)
-        (no_entry y.root) declared in
+    x.functions y.functions (entry_line x.root) (entry_line y.root) a.functions b.functions (no_entry x.root)
+    (no_entry y.root) declared in
     same_code x y texts.0 types.0 functions.0 (roots_alike x.root y.root functions.1)
 
 pub text_tells : (x y : Code) → IsToldCode x → IsToldCode y → c_text x ≡ c_text y → x ≡ y

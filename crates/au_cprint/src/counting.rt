@@ -1,7 +1,8 @@
 //! A macro for each of some operands, by how many there are.
 
 /// A macro for each of some operands, by how many there are.
-pub const COUNTING: &[u8] = br#"/* ---- counting: how many operands there are, and a macro for each of them */
+pub const COUNTING: &[u8] =
+    br#"/* ---- counting: how many operands there are, and a macro for each of them */
 
 #define COUNT(...) COUNT_(__VA_ARGS__, 257, 256, 255, 254, 253, 252, 251, 250, 249, 248, 247, 246, 245, \
     244, 243, 242, 241, 240, 239, 238, 237, 236, 235, 234, 233, 232, 231, 230, 229, 228, 227, 226, 225, \

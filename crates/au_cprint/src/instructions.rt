@@ -148,11 +148,7 @@ fn add_make(
 }
 
 /// Adds an order, the module that is behind it, and a parenthesis.
-fn add_placed_order(
-    text: &mut Vec<u8>,
-    order: &Sequence<u32>,
-    module: &[u8],
-) -> Result<(), Memory>
+fn add_placed_order(text: &mut Vec<u8>, order: &Sequence<u32>, module: &[u8]) -> Result<(), Memory>
     ensures { OnOk result (text.new.items ≡ text.old.items
         ++ (flat_map words.further (spec.numbers order.now ++ name module.now ∷ []) ++ 41 ∷ [])) }
 {
@@ -261,13 +257,22 @@ fn add_instruction(text: &mut Vec<u8>, one: &Instr) -> Result<(), Memory>
         Instr::Convert(kind) => add_word(text, b"CONVERT", kind_word(*kind)),
         Instr::Jump(label) => add_target(text, b"JUMP", *label),
         Instr::JumpNot(label) => add_target(text, b"JUMPNOT", *label),
-        Instr::ForTest { counter, last, label } => {
-            add_loop(text, b"FORTEST", *counter, *last, *label)
-        }
-        Instr::ForStep { counter, last, label } => {
-            add_loop(text, b"FORSTEP", *counter, *last, *label)
-        }
-        Instr::Make { of, tag, order, module } => add_make(text, *of, *tag, order, module),
+        Instr::ForTest {
+            counter,
+            last,
+            label,
+        } => { add_loop(text, b"FORTEST", *counter, *last, *label) }
+        Instr::ForStep {
+            counter,
+            last,
+            label,
+        } => { add_loop(text, b"FORSTEP", *counter, *last, *label) }
+        Instr::Make {
+            of,
+            tag,
+            order,
+            module,
+        } => add_make(text, *of, *tag, order, module),
         Instr::Take(slot) => add_one(text, b"TAKE", u64::from(*slot)),
         Instr::Case { slot, labels } => add_case(text, *slot, labels),
         Instr::Call { function, order } => add_many(text, b"CALL", *function, order),

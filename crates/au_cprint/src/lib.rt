@@ -2,18 +2,18 @@
 #![tactic(auto)]
 
 mod adding;
+pub mod counting;
 mod faults;
 mod instructions;
 pub mod laws;
 mod lines;
-pub mod counting;
 pub mod macros;
-pub mod runtime;
 mod printing;
+pub mod runtime;
 mod words;
 
-pub use faults::PrintFault;
 pub use counting::COUNTING;
+pub use faults::PrintFault;
 pub use macros::MACROS;
-pub use runtime::RUNTIME;
 pub use printing::print_c;
+pub use runtime::RUNTIME;

@@ -5,9 +5,9 @@ ghost use Rattle.au_base.specs.Outside.{Adds, AddsFront, HasRisen};
 ghost use Rattle.au_cprint.specs.Programs as spec;
 
 use crate::adding::add;
+use crate::counting::COUNTING;
 use crate::faults::PrintFault;
 use crate::lines::add_lines;
-use crate::counting::COUNTING;
 use crate::macros::MACROS;
 use crate::runtime::RUNTIME;
 use au_base::{Memory, Sink, put_all};
