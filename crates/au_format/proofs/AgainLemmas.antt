@@ -1,11 +1,10 @@
 -- A piece is read again where what follows doesn't go on with it.
-use Rattle.std.proofs.Common.{◌≡◌, ℕ, suc, ◌+◌, ◌<◌, ◌≤◌, Bool, true, false, not, ◌&&◌, ◌||◌, cond, nat_eq, List, []}
-use Rattle.std.proofs.Common.{◌∷◌, ◌++◌, length, take, drop, Option, Some, None, ap, ◌∙◌, sym, refl, subst, inl, inr}
+use Rattle.std.proofs.Common.{◌≡◌, ℕ, ◌+◌, ◌≤◌, Bool, true, false, not, ◌&&◌, ◌||◌, cond, nat_eq, List, []}
+use Rattle.std.proofs.Common.{◌∷◌, ◌++◌, length, take, Some, None, ap, ◌∙◌, sym, refl, inl, inr}
 use Rattle.std.proofs.Common.{arith, append_assoc, length-append}
 use Rattle.std.specs.List.{list_all, prefix_len, starts_with}
-use Rattle.std.proofs.Math.Seq.{take-append-add}
-use Rattle.std.proofs.lemmas.List.{append-nil, take_at}
-use Rattle.std.proofs.lemmas.Bool.{and_parts, and_from, or_left, or_parts, cases_Bool, cond-true, cond-false, both_ways}
+use Rattle.std.proofs.lemmas.List.{take_at}
+use Rattle.std.proofs.lemmas.Bool.{and_parts, and_from, or_left, or_parts, cond-true, cond-false, both_ways}
 use Rattle.std.proofs.lemmas.Bool.Decides.{nat_tests}
 use Rattle.au_base.specs.declared.tokens.Keyword.{Keyword}
 use Rattle.au_base.specs.declared.tokens.Sign.{Sign as SignOf}
@@ -22,10 +21,10 @@ use Rattle.au_base.specs.Tokens.{keyword_spelling, sign_spelling}
 use Rattle.au_lexer.specs.Bytes.{is_space, is_letter, is_digit, is_name_byte, is_text_byte}
 use Rattle.au_lexer.specs.Cut.{Begins, Stands, IsText}
 use Rattle.au_lexer.specs.Pieces.{Piece, blank, comment, docstring, number, token, three_quotes, spelling, what_of}
-use Rattle.au_lexer.specs.Pieces.{IsPiece, IsWord, IsNumber, number_of, byte_spelling}
-use Rattle.au_lexer.specs.Reading.{Front, piece, front, front_from, word_at, digits_at, word_front, number_front}
-use Rattle.au_lexer.specs.Reading.{word_what, keyword_of, comment_size, docstring_front, docstring_size, text_front}
-use Rattle.au_lexer.specs.Reading.{text_at, sign_of, sign_front}
+use Rattle.au_lexer.specs.Pieces.{IsPiece, IsWord, IsNumber, byte_spelling}
+use Rattle.au_lexer.specs.Reading.{piece, front, front_from, word_at, digits_at, word_front, number_front}
+use Rattle.au_lexer.specs.Reading.{word_what, comment_size, docstring_front, text_front}
+use Rattle.au_lexer.specs.Reading.{sign_of, sign_front}
 use Rattle.au_lexer.proofs.RunLemmas.{prefix_pass}
 use Rattle.au_lexer.proofs.WordLemmas.{keyword_again, keyword_none, keyword_word}
 use Rattle.au_lexer.proofs.StringLemmas.{text_again, written, how_written, plain, escape}

@@ -1,6 +1,6 @@
 -- The pieces of a layout are its cut.
-use Rattle.std.proofs.Common.{◌≡◌, ℕ, zero, suc, ◌+◌, ◌<◌, Bool, true, false, not, ◌||◌, cond, nat_lt, List, [], ◌∷◌}
-use Rattle.std.proofs.Common.{◌++◌, length, drop, Option, Some, None, ap, ◌∙◌, sym, refl, subst, inl, inr, arith}
+use Rattle.std.proofs.Common.{◌≡◌, ℕ, zero, suc, ◌+◌, Bool, true, false, not, ◌||◌, cond, nat_lt, List, [], ◌∷◌}
+use Rattle.std.proofs.Common.{◌++◌, length, drop, Option, Some, ap, ◌∙◌, sym, refl, subst, inl, inr}
 use Rattle.std.specs.List.{list_all, flat_map}
 use Rattle.std.proofs.Math.Seq.{drop-append_seam}
 use Rattle.std.proofs.lemmas.Bool.{cases_Bool, cond-true, cond-false, and_parts}
@@ -16,7 +16,7 @@ use Rattle.au_base.specs.declared.tokens.What.{What}
 use Rattle.au_base.specs.declared.tokens.What.TheVariants.{Word, Sign, Name, Number, Text}
 use Rattle.au_base.specs.Places.{is_newline}
 use Rattle.au_lexer.specs.Bytes.{is_space}
-use Rattle.au_lexer.specs.Cut.{CutsFront, Stands}
+use Rattle.au_lexer.specs.Cut.{CutsFront}
 use Rattle.au_lexer.specs.Pieces.{Piece, blank, comment, docstring, number, token, spelling, what_of, number_of, IsPiece}
 use Rattle.au_lexer.specs.Pieces.{IsWord}
 use Rattle.au_lexer.proofs.WordLemmas.{keyword_word}
@@ -27,9 +27,9 @@ use Rattle.au_format.specs.declared.standings.Previous.TheVariants.{Nothing, Tok
 use Rattle.au_format.specs.declared.standings.Standing.{Standing}
 use Rattle.au_format.specs.Kinds.{kind_of, nearest}
 use Rattle.au_format.specs.Standings.{standing}
-use Rattle.au_format.specs.Marks.{closes, follows, hugs, in_import}
+use Rattle.au_format.specs.Marks.{closes, follows}
 use Rattle.au_format.specs.Gaps.{token_gap, remark_gap, line_break, indent, line_levels, token_line, token_blank}
-use Rattle.au_format.specs.Layout.{laid_out, next_kind, ended_lines, file_end, trimmed}
+use Rattle.au_format.specs.Layout.{laid_out, next_kind, ended_lines, trimmed}
 use Rattle.au_format.proofs.RemarkLemmas.{trimmed_all}
 use Rattle.au_format.proofs.AgainLemmas.{Apart, goes_on, goes_with, stands_again}
 use Rattle.au_format.proofs.GlueLemmas.{sign_first, BeginsWith, glued_apart, plain_apart, newline_plain, space_plain}

@@ -1,7 +1,7 @@
 -- What follows a token in a layout doesn't go on with it.
-use Rattle.std.proofs.Common.{◌≡◌, ℕ, Bool, true, false, ◌&&◌, ◌||◌, nat_eq, List, [], ◌∷◌, Option, Some, ap, ◌∙◌, sym}
+use Rattle.std.proofs.Common.{◌≡◌, ℕ, Bool, true, false, ◌||◌, nat_eq, Option, Some, ap, ◌∙◌}
 use Rattle.std.proofs.Common.{refl, inl, inr, arith, subst}
-use Rattle.std.proofs.lemmas.Bool.{and_parts, or_cases, both_ways}
+use Rattle.std.proofs.lemmas.Bool.{and_parts, or_cases}
 use Rattle.std.proofs.lemmas.Bool.Decides.{nat_tests}
 use Rattle.au_base.specs.declared.tokens.Sign.{Sign as SignOf}
 use Rattle.au_base.specs.declared.tokens.Sign.TheVariants.{Assign, FatArrow, Arrow, WriteBorrow, Reborrow}
@@ -15,7 +15,7 @@ use Rattle.au_base.specs.declared.tokens.What.TheVariants.{Word, Sign, Name, Num
 use Rattle.au_lexer.specs.Bytes.{is_letter, is_digit, is_name_byte}
 use Rattle.au_format.specs.declared.kinds.Kind.{Kind}
 use Rattle.au_format.specs.Kinds.{kind_of}
-use Rattle.au_format.specs.Marks.{hugs, follows, is_name, is_number, is_borrow, is_read_borrow, ends_atom}
+use Rattle.au_format.specs.Marks.{hugs, follows, is_name, is_number, is_borrow, is_read_borrow}
 use Rattle.au_format.proofs.AgainLemmas.{extends, goes_with}
 
 -- A byte that goes on with no token.

@@ -1,13 +1,11 @@
 -- A layout keeps tokens and remarks, and stays as it is.
-use Rattle.std.proofs.Common.{◌≡◌, ℕ, ◌+◌, List, [], ◌∷◌, ◌++◌, length, take, drop, Option, Some, None, ap, ◌∙◌, sym}
-use Rattle.std.proofs.Common.{refl, subst, inl, inr, arith}
-use Rattle.std.specs.List.{flat_map}
+use Rattle.std.proofs.Common.{◌≡◌, ℕ, List, [], ◌∷◌, ◌++◌, length, take, drop, ap, ◌∙◌, sym}
+use Rattle.std.proofs.Common.{refl, subst, arith}
 use Rattle.std.proofs.lemmas.List.{append_cancel_right}
-use Rattle.au_base.specs.declared.tokens.What.{What}
 use Rattle.au_lexer.specs.Cut.{CutsFront, Stands, tokens_among}
 use Rattle.au_lexer.specs.Pieces.{Piece, blank, comment, docstring, number, token, spelling, what_of, number_of, IsPiece}
 use Rattle.au_lexer.specs.Pieces.{three_quotes}
-use Rattle.au_lexer.specs.Reading.{Front, piece, front}
+use Rattle.au_lexer.specs.Reading.{piece}
 use Rattle.au_format.specs.declared.standings.Previous.TheVariants.{Nothing}
 use Rattle.au_format.specs.Layout.{layout_text}
 use Rattle.au_format.specs.Keeping.{kept_among, LayoutKeeps, LayoutCuts, LayoutStays, OneLayout}

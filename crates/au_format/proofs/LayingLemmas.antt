@@ -2,25 +2,25 @@
 use Rattle.std.proofs.Common.{◌≡◌, ℕ, ◌+◌, ◌<◌, ◌≤◌, List, [], ◌∷◌, ◌++◌, length, take, drop, Option, Some, None}
 use Rattle.std.proofs.Common.{ap, ◌∙◌, sym, refl, subst, ◌⊎◌, inl, inr, arith, append_assoc, length-drop}
 use Rattle.std.specs.Prelude.{slice_index}
-use Rattle.std.proofs.lemmas.List.{append-nil, drop-drop}
+use Rattle.std.proofs.lemmas.List.{drop-drop}
 use Rattle.std.proofs.lemmas.Bool.{cases_Bool, cond-true, cond-false}
 use Rattle.au_base.specs.Places.{is_newline}
 use Rattle.au_base.specs.declared.tokens.Token.{Token as TokenOf}
 use Rattle.au_base.specs.declared.tokens.What.{What}
-use Rattle.au_lexer.specs.Cut.{Stands, CutsFront, Cut, tokens_among, token_at}
+use Rattle.au_lexer.specs.Cut.{Stands, CutsFront, Cut, tokens_among}
 use Rattle.au_lexer.specs.Pieces.{Piece, blank, comment, docstring, number, token, spelling, what_of, number_of}
 use Rattle.au_lexer.proofs.CutLemmas.{spelling_some}
 use Rattle.au_format.specs.declared.fronts.Front.TheVariants as shown
 use Rattle.au_format.specs.declared.kinds.Kind.{Kind}
 use Rattle.au_format.specs.declared.places.Place.{Place}
 use Rattle.au_format.specs.declared.standings.Previous.{Previous}
-use Rattle.au_format.specs.declared.standings.Previous.TheVariants.{Nothing, Token, Docstring, Comment}
+use Rattle.au_format.specs.declared.standings.Previous.TheVariants.{Token, Docstring, Comment}
 use Rattle.au_format.specs.declared.standings.Standing.{Standing}
 use Rattle.au_format.specs.Kinds.{kind_of, kinds_of, kinds_among, nearest, first_kind, spelled_size}
 use Rattle.au_format.specs.Standings.{standing, step}
 use Rattle.au_format.specs.Gaps.{token_gap, remark_gap}
 use Rattle.au_format.specs.Fronts.{front_at, front_of}
-use Rattle.au_format.specs.Layout.{laid_out, layout_text, next_kind, ended_lines, file_end, trimmed, IsLayout}
+use Rattle.au_format.specs.Layout.{laid_out, next_kind, ended_lines, file_end, trimmed, IsLayout}
 use Rattle.au_format.specs.Places.{first_size, HasLaid, AddsToken, start, behind_blank, behind_remark, behind_token, whats_of}
 use Rattle.au_format.specs.Places.{whats_among, whats}
 use Rattle.au_format.proofs.StandLemmas.{begins_some}

@@ -1,5 +1,5 @@
 -- What the first piece of bytes is to the layout, and how long it is.
-use Rattle.std.proofs.Common.{◌≡◌, ℕ, suc, ◌+◌, ◌<◌, ◌≤◌, Bool, true, false, nat_eq, List, [], ◌∷◌, ◌++◌, length}
+use Rattle.std.proofs.Common.{◌≡◌, ℕ, ◌+◌, ◌<◌, ◌≤◌, nat_eq, List, [], ◌∷◌, ◌++◌, length}
 use Rattle.std.proofs.Common.{take, drop, Option, Some, None, ap, ◌∙◌, sym, refl, subst, inl, inr, arith, length-append}
 use Rattle.std.specs.List.{starts_with, flat_map}
 use Rattle.std.proofs.lemmas.Bool.{cases_Bool, cond-true, cond-false}
@@ -10,7 +10,7 @@ use Rattle.au_lexer.specs.Bytes.{is_space}
 use Rattle.au_lexer.specs.Cut.{Stands}
 use Rattle.au_lexer.specs.Pieces.{Piece, blank, comment, docstring, number, token, spelling, what_of, three_quotes}
 use Rattle.au_lexer.specs.Pieces.{IsPiece, number_of, byte_spelling}
-use Rattle.au_lexer.specs.Reading.{Front, piece, stray, front, front_from, is_comment, comment_size, docstring_size}
+use Rattle.au_lexer.specs.Reading.{piece, stray, front, front_from, is_comment, comment_size, docstring_size}
 use Rattle.au_lexer.specs.Reading.{docstring_front}
 use Rattle.au_lexer.proofs.SignLemmas.{begun}
 use Rattle.au_lexer.proofs.FrontLemmas.{split_first}

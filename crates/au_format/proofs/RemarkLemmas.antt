@@ -1,6 +1,6 @@
 -- Bytes without the blanks at their end.
 use Rattle.std.proofs.Common.{◌≡◌, ℕ, ◌+◌, ◌<◌, Bool, true, false, ◌&&◌, ◌==◌, cond, List, [], ◌∷◌, ◌++◌, length}
-use Rattle.std.proofs.Common.{take, get_or, ap, ◌∙◌, sym, refl, subst, inl, inr, arith, length-append}
+use Rattle.std.proofs.Common.{take, get_or, ap, ◌∙◌, sym, refl, inl, inr, arith, length-append}
 use Rattle.std.specs.List.{list_all}
 use Rattle.std.proofs.lemmas.List.{take_more}
 use Rattle.std.proofs.lemmas.Bool.{cases_Bool, cond-true, cond-false, and_parts, and_from, ne_eqb}

@@ -1,5 +1,5 @@
 -- The piece that stands at the front of bytes is the one that is read there.
-use Rattle.std.proofs.Common.{◌≡◌, ℕ, ◌+◌, ◌<◌, List, [], ◌∷◌, length, ap, ◌∙◌, sym, subst, inl, inr, arith}
+use Rattle.std.proofs.Common.{◌≡◌, ℕ, ◌<◌, List, ◌∷◌, length, ap, ◌∙◌, sym, subst, inl, inr, arith}
 use Rattle.std.proofs.Common.{length-append}
 use Rattle.au_lexer.specs.Pieces.{Piece, spelling, what_of}
 use Rattle.au_lexer.specs.Cut.{Begins, Stands}

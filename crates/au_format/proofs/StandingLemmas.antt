@@ -1,5 +1,5 @@
 -- What is known behind one token more, and how far its numbers go.
-use Rattle.std.proofs.Common.{◌≡◌, ℕ, suc, ◌+◌, ◌-◌, ◌≤◌, Bool, true, false, cond, List, [], ◌∷◌, length, drop}
+use Rattle.std.proofs.Common.{◌≡◌, ℕ, ◌+◌, ◌≤◌, Bool, true, false, cond, List, [], ◌∷◌, length, drop}
 use Rattle.std.proofs.Common.{Option, Some, refl, inl, inr, arith}
 use Rattle.std.proofs.lemmas.Bool.{cases_Bool, cond-true, cond-false}
 use Rattle.au_base.specs.declared.tokens.Keyword.TheVariants.{KwModule, KwBody, KwIs, KwEnd, KwImport, KwAs}
@@ -14,7 +14,7 @@ use Rattle.au_base.specs.declared.tokens.Keyword.TheVariants.{KwRegion}
 use Rattle.au_format.specs.declared.kinds.Kind.{Kind}
 use Rattle.au_format.specs.declared.kinds.Kind.TheVariants.{Word, Sign, Name, Number, Text}
 use Rattle.au_format.specs.Kinds.{nearest}
-use Rattle.au_format.specs.Marks.{choices, choices_behind, begins, levels, opens, closes}
+use Rattle.au_format.specs.Marks.{choices, choices_behind, begins, levels, opens}
 use Rattle.au_format.specs.Standings.{standing, step}
 
 -- what is known behind one token more

@@ -1,10 +1,8 @@
 -- The pieces of a layout.
 use Rattle.std.proofs.Common.{◌≡◌, ℕ, zero, suc, ◌+◌, Bool, true, false, cond, nat_lt, List, [], ◌∷◌, ◌++◌}
-use Rattle.std.proofs.Common.{Option, Some, None, ap, ◌∙◌, sym, refl, subst, inl, inr, arith, append_assoc}
+use Rattle.std.proofs.Common.{Option, Some, ap, ◌∙◌, sym, refl, inl, inr, arith}
 use Rattle.std.specs.List.{flat_map}
-use Rattle.std.proofs.lemmas.Grind.{flat_map-append}
 use Rattle.std.proofs.lemmas.Bool.{cases_Bool, cond-true, cond-false}
-use Rattle.au_base.specs.declared.tokens.What.{What}
 use Rattle.au_lexer.specs.Pieces.{Piece, blank, comment, docstring, number, token, spelling, number_of}
 use Rattle.au_format.specs.declared.kinds.Kind.{Kind}
 use Rattle.au_format.specs.declared.kinds.Kind.TheVariants as kind
@@ -14,10 +12,10 @@ use Rattle.au_format.specs.declared.standings.Standing.{Standing}
 use Rattle.au_format.specs.Kinds.{kind_of}
 use Rattle.au_format.specs.Standings.{standing}
 use Rattle.au_format.specs.Marks.{closes}
-use Rattle.au_format.specs.Gaps.{token_gap, remark_gap, line_break, indent, line_levels, token_line, token_blank}
+use Rattle.au_format.specs.Gaps.{token_gap, remark_gap, line_break, indent, line_levels, token_line}
 use Rattle.au_format.specs.Layout.{laid_out, next_kind, ended_lines, file_end, trimmed}
-use Rattle.au_format.specs.Places.{whats_among, whats_of}
-use Rattle.au_format.specs.Keeping.{kept, kept_among}
+use Rattle.au_format.specs.Places.{whats_among}
+use Rattle.au_format.specs.Keeping.{kept_among}
 use Rattle.au_format.proofs.RemarkLemmas.{trimmed_again}
 use Rattle.au_format.proofs.LayingLemmas.{first_among, first_of_whats}
 

@@ -1,7 +1,7 @@
 -- Where levels and lines begin and end, and which tokens stand together: what each token does to the layout, by
 -- its kind, the tokens before it and the next one.
 use Rattle.std.specs.Prelude.{ℕ, ◌+◌, ◌-◌, ◌==◌, Bool, true, false, not, ◌&&◌, ◌||◌, if◌then◌else◌}
-use Rattle.std.specs.Prelude.{List, [], ◌∷◌, drop, Option, Some, None, is_none}
+use Rattle.std.specs.Prelude.{List, [], ◌∷◌, drop, Option, Some, is_none}
 use Rattle.au_base.specs.declared.tokens.Keyword.TheVariants.{KwIs, KwEnd, KwImport, KwCase, KwWhen, KwOf, KwDo}
 use Rattle.au_base.specs.declared.tokens.Keyword.TheVariants.{KwIf, KwThen, KwElse, KwBorrow, KwNil, KwTrue}
 use Rattle.au_base.specs.declared.tokens.Keyword.TheVariants.{KwFalse, KwFree, KwLinear, KwAnyUniverse, KwRegion}

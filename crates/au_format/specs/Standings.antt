@@ -1,6 +1,6 @@
 -- What is known at a place of a file by the tokens before it.
-use Rattle.std.specs.Prelude.{ℕ, ◌+◌, ◌-◌, Bool, true, false, not, ◌||◌, if◌then◌else◌, List, [], ◌∷◌, drop}
-use Rattle.std.specs.Prelude.{Option, Some, None, is_none}
+use Rattle.std.specs.Prelude.{◌+◌, ◌-◌, Bool, ◌||◌, if◌then◌else◌, List, drop}
+use Rattle.std.specs.Prelude.{Option, Some, is_none}
 use Rattle.au_format.specs.declared.kinds.Kind.{Kind}
 use Rattle.au_format.specs.declared.standings.Standing.{Standing}
 use Rattle.au_format.specs.Kinds.{nearest}

@@ -1,5 +1,5 @@
 -- The layout that is written is the one that the file has.
-use Rattle.std.proofs.Common.{◌≡◌, ◌∙◌, subst}
+use Rattle.std.proofs.Common.{◌∙◌, subst}
 use Rattle.au_base.specs.Outside.{Adds, AddsFront}
 use Rattle.au_format.proofs.LawLemmas.{one_layout}
 use Rattle.au_format.proofs.layouts.layout.Goals as goal
