@@ -74,7 +74,9 @@ none_passes p next rest h = cond-false (p next) (1 + prefix_len p rest) 0 h
 -- a run that what follows doesn't go on with
 run_ends : (p : ℕ → Bool) (run rest : List ℕ) → list_all p run ≡ true → prefix_len p rest ≡ 0 →
     prefix_len p (run ++ rest) ≡ length run
-run_ends p run rest h none = prefix_pass p run rest h ∙ (let e : length run + prefix_len p rest ≡ length run = omega (arith, none) in e)
+run_ends p run rest h none =
+    let e : length run + prefix_len p rest ≡ length run = omega (arith, none) in
+    prefix_pass p run rest h ∙ e
 
 no_newline : (bytes rest : List ℕ) → Apart (comment bytes) rest → prefix_len (λ byte. not (is_newline byte)) rest ≡ 0
 no_newline bytes [] h = refl

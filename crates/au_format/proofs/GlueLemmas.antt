@@ -71,11 +71,29 @@ plain_apart (Text text) byte p = p.no_quote
 
 -- a newline is one
 pub newline_plain : IsPlain 10
-newline_plain = record { no_name = refl; no_digit = refl; no_quote = refl; no_equal = refl; no_greater = refl; no_minus = refl; no_mark = refl; no_tilde = refl }
+newline_plain = record {
+  no_name = refl;
+  no_digit = refl;
+  no_quote = refl;
+  no_equal = refl;
+  no_greater = refl;
+  no_minus = refl;
+  no_mark = refl;
+  no_tilde = refl;
+}
 
 -- a space is one
 pub space_plain : IsPlain 32
-space_plain = record { no_name = refl; no_digit = refl; no_quote = refl; no_equal = refl; no_greater = refl; no_minus = refl; no_mark = refl; no_tilde = refl }
+space_plain = record {
+  no_name = refl;
+  no_digit = refl;
+  no_quote = refl;
+  no_equal = refl;
+  no_greater = refl;
+  no_minus = refl;
+  no_mark = refl;
+  no_tilde = refl;
+}
 
 -- the first byte of a sign
 abbrev pub sign_first : SignOf → ℕ
@@ -222,28 +240,100 @@ mark_follows (Number value digits) h = no_way h
 mark_follows (Text text) h = no_way h
 
 byte40_plain : IsPlain 40
-byte40_plain = record { no_name = refl; no_digit = refl; no_quote = refl; no_equal = refl; no_greater = refl; no_minus = refl; no_mark = refl; no_tilde = refl }
+byte40_plain = record {
+  no_name = refl;
+  no_digit = refl;
+  no_quote = refl;
+  no_equal = refl;
+  no_greater = refl;
+  no_minus = refl;
+  no_mark = refl;
+  no_tilde = refl;
+}
 
 byte41_plain : IsPlain 41
-byte41_plain = record { no_name = refl; no_digit = refl; no_quote = refl; no_equal = refl; no_greater = refl; no_minus = refl; no_mark = refl; no_tilde = refl }
+byte41_plain = record {
+  no_name = refl;
+  no_digit = refl;
+  no_quote = refl;
+  no_equal = refl;
+  no_greater = refl;
+  no_minus = refl;
+  no_mark = refl;
+  no_tilde = refl;
+}
 
 byte91_plain : IsPlain 91
-byte91_plain = record { no_name = refl; no_digit = refl; no_quote = refl; no_equal = refl; no_greater = refl; no_minus = refl; no_mark = refl; no_tilde = refl }
+byte91_plain = record {
+  no_name = refl;
+  no_digit = refl;
+  no_quote = refl;
+  no_equal = refl;
+  no_greater = refl;
+  no_minus = refl;
+  no_mark = refl;
+  no_tilde = refl;
+}
 
 byte93_plain : IsPlain 93
-byte93_plain = record { no_name = refl; no_digit = refl; no_quote = refl; no_equal = refl; no_greater = refl; no_minus = refl; no_mark = refl; no_tilde = refl }
+byte93_plain = record {
+  no_name = refl;
+  no_digit = refl;
+  no_quote = refl;
+  no_equal = refl;
+  no_greater = refl;
+  no_minus = refl;
+  no_mark = refl;
+  no_tilde = refl;
+}
 
 byte44_plain : IsPlain 44
-byte44_plain = record { no_name = refl; no_digit = refl; no_quote = refl; no_equal = refl; no_greater = refl; no_minus = refl; no_mark = refl; no_tilde = refl }
+byte44_plain = record {
+  no_name = refl;
+  no_digit = refl;
+  no_quote = refl;
+  no_equal = refl;
+  no_greater = refl;
+  no_minus = refl;
+  no_mark = refl;
+  no_tilde = refl;
+}
 
 byte59_plain : IsPlain 59
-byte59_plain = record { no_name = refl; no_digit = refl; no_quote = refl; no_equal = refl; no_greater = refl; no_minus = refl; no_mark = refl; no_tilde = refl }
+byte59_plain = record {
+  no_name = refl;
+  no_digit = refl;
+  no_quote = refl;
+  no_equal = refl;
+  no_greater = refl;
+  no_minus = refl;
+  no_mark = refl;
+  no_tilde = refl;
+}
 
 byte58_plain : IsPlain 58
-byte58_plain = record { no_name = refl; no_digit = refl; no_quote = refl; no_equal = refl; no_greater = refl; no_minus = refl; no_mark = refl; no_tilde = refl }
+byte58_plain = record {
+  no_name = refl;
+  no_digit = refl;
+  no_quote = refl;
+  no_equal = refl;
+  no_greater = refl;
+  no_minus = refl;
+  no_mark = refl;
+  no_tilde = refl;
+}
 
 byte46_plain : IsPlain 46
-byte46_plain = record { no_name = refl; no_digit = refl; no_quote = refl; no_equal = refl; no_greater = refl; no_minus = refl; no_mark = refl; no_tilde = refl }
+byte46_plain = record {
+  no_name = refl;
+  no_digit = refl;
+  no_quote = refl;
+  no_equal = refl;
+  no_greater = refl;
+  no_minus = refl;
+  no_mark = refl;
+  no_tilde = refl;
+}
 
 -- before a token that stands behind another with no blank
 sign_follows : (sign : SignOf) (what : What) (imported : Bool) →

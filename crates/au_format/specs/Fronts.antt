@@ -1,5 +1,6 @@
 -- What pieces of a file are to its layout, and how this shows in the bytes.
-use Rattle.std.specs.Prelude.{ℕ, ◌+◌, nat_eq, if◌then◌else◌, List, drop, length, slice_index, Option, Some, None}
+use Rattle.std.specs.Prelude.{ℕ, ◌+◌, nat_eq, if◌then◌else◌, List, drop, length, slice_index, Option, Some}
+use Rattle.std.specs.Prelude.{None}
 use Rattle.std.specs.List.{starts_with}
 use Rattle.au_lexer.specs.Bytes.{is_space}
 use Rattle.au_lexer.specs.Pieces.{Piece, blank, comment, docstring, number, token, spelling, three_quotes}

@@ -12,8 +12,8 @@ abbrev pub indent : ℕ → List ℕ
 indent zero = []
 indent (suc levels) = 32 ∷ 32 ∷ indent levels
 
--- the end of a line and the beginning of the next, with an empty line between them where there were two or more
--- ends of lines
+-- the end of a line and the beginning of the next, with an empty line between them where there were two
+-- or more ends of lines
 abbrev pub line_break : ℕ → ℕ → List ℕ
 line_break lines levels = if nat_lt 1 lines then 10 ∷ 10 ∷ indent levels else 10 ∷ indent levels
 
@@ -29,8 +29,8 @@ token_blank s kind = if s.hugging || follows s.last s.in_import kind then [] els
 abbrev pub token_line : Standing → ℕ → Kind → Option Kind → List ℕ
 token_line s lines kind next = line_break lines (line_levels s (closes s.last s.choices kind next))
 
--- What stands before a token, by the piece before it and how many lines end between them: a line begins behind
--- a remark, and behind tokens that end one.
+-- What stands before a token, by the piece before it and how many lines end between them: a line begins
+-- behind a remark, and behind tokens that end one.
 abbrev pub token_gap : Standing → Previous → ℕ → Kind → Option Kind → List ℕ
 token_gap s Nothing lines kind next = []
 token_gap s Token lines kind next = if s.ended then token_line s lines kind next else token_blank s kind

@@ -25,11 +25,13 @@ Holds bytes all = (pieces : List Piece) × CutsFront pieces bytes [] × (all ≡
 
 -- The layout of a file has its tokens and remarks, in order.
 abbrev pub LayoutKeeps : Type 0
-LayoutKeeps = (bytes text : List ℕ) → IsLayout bytes text → (all : List Piece) → Holds bytes all → Holds text all
+LayoutKeeps =
+    (bytes text : List ℕ) → IsLayout bytes text → (all : List Piece) → Holds bytes all → Holds text all
 
 -- The layout of a file is cut into the same tokens, their places aside.
 abbrev pub LayoutCuts : Type 0
-LayoutCuts = (file : ℕ) (bytes text : List ℕ) (tokens : List TokenOf) → Cut file bytes tokens → IsLayout bytes text →
+LayoutCuts =
+    (file : ℕ) (bytes text : List ℕ) (tokens : List TokenOf) → Cut file bytes tokens → IsLayout bytes text →
     (others : List TokenOf) × Cut file text others × (whats others ≡ whats tokens)
 
 -- A layout is laid out.

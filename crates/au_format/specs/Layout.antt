@@ -40,9 +40,9 @@ file_end Token = 10 ∷ []
 file_end Docstring = 10 ∷ []
 file_end Comment = 10 ∷ []
 
--- The layout of pieces, behind the tokens `before`, the nearest first, behind what stands before the pieces, and
--- behind so many ends of lines since: each token and each remark as it is spelled, a comment without its trailing
--- blanks, with what stands before it.
+-- The layout of pieces, behind the tokens `before`, the nearest first, behind what stands before the
+-- pieces, and behind so many ends of lines since: each token and each remark as it is spelled, a comment
+-- without its trailing blanks, with what stands before it.
 abbrev pub laid_out : List Kind → Previous → ℕ → List Piece → List ℕ
 laid_out before last lines [] = file_end last
 laid_out before last lines (blank byte ∷ rest) = laid_out before last (lines + ended_lines byte) rest

@@ -1,13 +1,16 @@
--- Where levels and lines begin and end, and which tokens stand together: what each token does to the layout, by
--- its kind, the tokens before it and the next one.
+-- Where levels and lines begin and end, and which tokens stand together: what each token does to the
+-- layout, by its kind, the tokens before it and the next one.
 use Rattle.std.specs.Prelude.{ℕ, ◌+◌, ◌-◌, ◌==◌, Bool, true, false, not, ◌&&◌, ◌||◌, if◌then◌else◌}
 use Rattle.std.specs.Prelude.{List, [], ◌∷◌, drop, Option, Some, is_none}
-use Rattle.au_base.specs.declared.tokens.Keyword.TheVariants.{KwIs, KwEnd, KwImport, KwCase, KwWhen, KwOf, KwDo}
+use Rattle.au_base.specs.declared.tokens.Keyword.TheVariants.{KwIs, KwEnd, KwImport, KwCase, KwWhen, KwOf}
+use Rattle.au_base.specs.declared.tokens.Keyword.TheVariants.{KwDo}
 use Rattle.au_base.specs.declared.tokens.Keyword.TheVariants.{KwIf, KwThen, KwElse, KwBorrow, KwNil, KwTrue}
-use Rattle.au_base.specs.declared.tokens.Keyword.TheVariants.{KwFalse, KwFree, KwLinear, KwAnyUniverse, KwRegion}
+use Rattle.au_base.specs.declared.tokens.Keyword.TheVariants.{KwFalse, KwFree, KwLinear, KwAnyUniverse}
+use Rattle.au_base.specs.declared.tokens.Keyword.TheVariants.{KwRegion}
 use Rattle.au_base.specs.declared.tokens.Sign.TheVariants.{Arrow, WriteBorrow, Reborrow, LeftParenthesis}
 use Rattle.au_base.specs.declared.tokens.Sign.TheVariants.{RightParenthesis, LeftBracket, RightBracket, Comma}
-use Rattle.au_base.specs.declared.tokens.Sign.TheVariants.{Semicolon, Colon, Dot, ReadBorrow, Exclamation, Minus}
+use Rattle.au_base.specs.declared.tokens.Sign.TheVariants.{Semicolon, Colon, Dot, ReadBorrow, Exclamation}
+use Rattle.au_base.specs.declared.tokens.Sign.TheVariants.{Minus}
 use Rattle.au_format.specs.declared.kinds.Kind.{Kind}
 use Rattle.au_format.specs.declared.kinds.Kind.TheVariants.{Word, Sign, Name, Number, Text}
 use Rattle.au_format.specs.Kinds.{nearest}
@@ -54,8 +57,8 @@ begins_behind choices (Word KwThen) = choices == 0
 begins_behind choices (Word KwElse) = choices == 0
 begins_behind choices other = false
 
--- how many expressions have an `else` to come behind a token, by how many had before it, and by whether an `if`
--- there is one of a statement
+-- how many expressions have an `else` to come behind a token, by how many had before it, and by whether
+-- an `if` there is one of a statement
 abbrev pub choices_behind : ℕ → Bool → Kind → ℕ
 choices_behind choices begins (Word KwIf) = if begins then choices else choices + 1
 choices_behind choices begins (Word KwElse) = choices - 1
@@ -95,9 +98,9 @@ abbrev pub in_import : List Kind → Bool
 in_import [] = false
 in_import (kind ∷ before) = import_through (in_import before) kind
 
--- Whether a token opens a level, by the token two before it, by how many expressions have an `else` to come
--- and by the next token: `is` but in a union's case, `do`, `of`, and `then` and `else` of a statement, but for
--- an `else` before `if`.
+-- Whether a token opens a level, by the token two before it, by how many expressions have an `else` to
+-- come and by the next token: `is` but in a union's case, `do`, `of`, and `then` and `else` of a
+-- statement, but for an `else` before `if`.
 abbrev pub opens : Option Kind → ℕ → Kind → Option Kind → Bool
 opens second choices (Word KwIs) next = not (is_case second)
 opens second choices (Word KwDo) next = true

@@ -1,5 +1,6 @@
 -- How far a file is laid out.
-use Rattle.std.specs.Prelude.{◌≡◌, ℕ, ◌+◌, ◌≤◌, List, [], ◌∷◌, ◌++◌, length, map, take, drop, Option, Some, None}
+use Rattle.std.specs.Prelude.{◌≡◌, ℕ, ◌+◌, ◌≤◌, List, [], ◌∷◌, ◌++◌, length, map, take, drop, Option, Some}
+use Rattle.std.specs.Prelude.{None}
 use Rattle.au_base.specs.declared.tokens.Token.{Token as TokenOf}
 use Rattle.au_base.specs.declared.tokens.What.{What}
 use Rattle.au_lexer.specs.Cut.{CutsFront}

@@ -14,8 +14,8 @@ use std::alloc::Global;
 ///
 /// # Errors
 ///
-/// `FormatFault::Write` where the sink failed: a front of the layout stands there. `FormatFault::Memory` where no
-/// memory was found: nothing was written.
+/// `FormatFault::Write` where the sink failed: a front of the layout stands there. `FormatFault::Memory`
+/// where no memory was found: nothing was written.
 pub fn layout<O: Sink>(
     alloc: Global,
     file: u16,
