@@ -2,13 +2,15 @@
 use Rattle.std.proofs.Common.{◌≡◌, ℕ, List, [], ◌∷◌, ◌++◌, length, take, drop, ap, ◌∙◌, sym}
 use Rattle.std.proofs.Common.{refl, subst, arith}
 use Rattle.std.proofs.lemmas.List.{append_cancel_right}
+use Rattle.au_base.specs.declared.tokens.Token.{Token as TokenOf}
 use Rattle.au_lexer.specs.Cut.{CutsFront, Stands, tokens_among}
 use Rattle.au_lexer.specs.Pieces.{Piece, blank, comment, docstring, number, token, spelling, what_of, number_of, IsPiece}
 use Rattle.au_lexer.specs.Pieces.{three_quotes}
 use Rattle.au_lexer.specs.Reading.{piece}
+use Rattle.au_syntax.specs.Words.{AreWords, Words, spelled, words}
 use Rattle.au_format.specs.declared.standings.Previous.TheVariants.{Nothing}
 use Rattle.au_format.specs.Layout.{layout_text}
-use Rattle.au_format.specs.Keeping.{kept_among, LayoutKeeps, LayoutCuts, LayoutStays, OneLayout}
+use Rattle.au_format.specs.Keeping.{kept_among, LayoutKeeps, LayoutCuts, LayoutSays, LayoutStays, OneLayout}
 use Rattle.au_format.specs.Places.{whats, whats_among}
 use Rattle.au_format.proofs.StandLemmas.{begins_some, stands_front}
 use Rattle.au_format.proofs.PieceLemmas.{stands_spelled}
@@ -109,3 +111,16 @@ layout_stays bytes text layout = (
 pub one_layout : OneLayout
 one_layout bytes text other a b =
     a.2 ∙ ap layout_text (one_cut a.0 b.0 bytes a.1 b.1) ∙ sym b.2
+
+-- the words of a tree are its tokens
+words_spelled : (ws : Words) (tokens : List TokenOf) → AreWords ws tokens → whats tokens ≡ spelled ws
+words_spelled [] [] h = refl
+words_spelled [] (one ∷ tokens) h = absurd h
+words_spelled (printed ∷ ws) [] h = absurd h
+words_spelled (printed ∷ ws) (one ∷ tokens) h =
+    ap (λ w. w ∷ whats tokens) h.0.0 ∙ ap (λ l. printed.what ∷ l) (words_spelled ws tokens h.1)
+
+pub layout_says : LayoutSays
+layout_says file bytes text tokens m cut spells layout =
+    let others = layout_cuts file bytes text tokens cut layout in
+    (others.0, others.1, others.2 ∙ words_spelled (words m) tokens spells)

@@ -4,6 +4,8 @@ use Rattle.std.specs.List.{flat_map}
 use Rattle.au_base.specs.declared.tokens.Token.{Token as TokenOf}
 use Rattle.au_lexer.specs.Cut.{Cut, CutsFront}
 use Rattle.au_lexer.specs.Pieces.{Piece, blank, comment, docstring, number, token}
+use Rattle.au_syntax.specs.Plain.{PlainModule}
+use Rattle.au_syntax.specs.Words.{Spells, spelled, words}
 use Rattle.au_format.specs.Layout.{IsLayout, trimmed}
 use Rattle.au_format.specs.Places.{whats}
 
@@ -33,6 +35,13 @@ abbrev pub LayoutCuts : Type 0
 LayoutCuts =
     (file : ℕ) (bytes text : List ℕ) (tokens : List TokenOf) → Cut file bytes tokens → IsLayout bytes text →
     (others : List TokenOf) × Cut file text others × (whats others ≡ whats tokens)
+
+-- The tokens of the layout of a file that has a tree are the words of this tree, the places aside.
+abbrev pub LayoutSays : Type 0
+LayoutSays =
+    (file : ℕ) (bytes text : List ℕ) (tokens : List TokenOf) (m : PlainModule) → Cut file bytes tokens →
+    Spells m tokens → IsLayout bytes text →
+    (others : List TokenOf) × Cut file text others × (whats others ≡ spelled (words m))
 
 -- A layout is laid out.
 abbrev pub LayoutStays : Type 0
