@@ -16,8 +16,8 @@ returns-in-None-clause-does c =
     ∙ ap (λ (path : List ℕ). exchanged (record { base = base_of one.start; path = path }) (low c.args.new)
     (world_of c.args.self.now)) c.as_slice.ensures)
 
-pub returns-in_ok-tell_use-in-Some-clause-does : goal.returns-in_ok-tell_use-in-Some-clause-does
-returns-in_ok-tell_use-in-Some-clause-does c =
+pub returns-in_ok-tell_use-in-Some-exchange-clause-does : goal.returns-in_ok-tell_use-in-Some-exchange-clause-does
+returns-in_ok-tell_use-in-Some-exchange-clause-does c =
     let one = c.in-Some.one.now in
     swapped (low c.args.reference.now) (low c.args.new) (world_of c.args.self.now) (lent one)
     c.in-Some.ensures (low c.in-Some-exchange.old) (world_of c.exchange.new.self) (world_of c.tell_use.new.self)
@@ -25,4 +25,4 @@ returns-in_ok-tell_use-in-Some-clause-does c =
     ∙ c.exchange.ensures.world
     ∙ ap (λ (path : List ℕ). exchanged (record { base = base_of one.start; path = path }) (low c.args.new)
     (world_of c.args.self.now)) c.as_slice.ensures)
-    c.in_ok-tell_use-in-Some.ensures.world
+    c.in_ok-tell_use-in-Some-exchange.ensures.world
