@@ -1,16 +1,19 @@
 -- A value that isn't of a variant's form is no value of that form; and the parts of one that is.
-use Rattle.std.proofs.Common.{◌≡◌, ℕ, Bool, List, Some, None, ap, ◌∙◌, sym, refl}
+use Rattle.std.proofs.Common.{◌≡◌, ℕ, Bool, List, length, Some, None, ap, ◌∙◌, sym, refl}
+use Rattle.std.proofs.lemmas.List.{length-map}
 use Rattle.std.specs.Global.{Global}
+use Rattle.std.specs.Option.{option_map}
 use Rattle.std.specs.declared.boxed.Box.{Box}
 use Rattle.au_effects.specs.Numbers.{truth_in, text_in}
-use Rattle.au_effects.specs.Calls.{reference_in, root_in, box_in, buffer_in, terminal_in}
+use Rattle.au_effects.specs.Calls.{root_in, box_in, buffer_in, terminal_in}
+use Rattle.au_effects.specs.References.{reference_in}
 use Rattle.au_effects.proofs.PartLemmas.{listed_fields}
 use Rattle.au_cells.specs.declared.cells.Borrowed.{Borrowed}
 use Rattle.au_cells.specs.declared.cells.Parts.{Parts}
 use Rattle.au_cells.specs.declared.cells.Cell.{Cell}
 use Rattle.au_cells.specs.declared.cells.Cell.TheBlock.{shown-the_row-Cell-0, backs-Cell}
 use Rattle.au_cells.specs.declared.cells.Cell as cell
-use Rattle.au_cells.specs.Cells.{Low, low, lows, taken_apart, apart_of}
+use Rattle.au_cells.specs.Cells.{Low, low, lows, taken_apart, apart_of, case_counted}
 use Rattle.au_cells.proofs.CellLemmas.{made_is}
 
 pub not_truth : (c : Cell) → ((x : Bool) → c ≡ cell.Truth x → ⊥) → truth_in (low c) ≡ None
@@ -74,3 +77,10 @@ made_apart parts =
     ∙ ap (λ (values : List Low). Some
     (record { tag = parts.value.tag; birth = parts.value.birth; fields = values })) (listed_fields
     (lows parts.value.fields.items))
+
+pub made_counted : (parts : Box Parts Global)
+    → option_map case_counted (taken_apart (low (cell.Made parts)))
+    ≡ Some (parts.value.tag, length parts.value.fields.items)
+made_counted parts =
+    ap (option_map case_counted) (made_apart parts)
+    ∙ ap (λ n. Some (parts.value.tag, n)) (length-map parts.value.fields.items low)

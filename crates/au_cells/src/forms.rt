@@ -4,8 +4,9 @@ ghost use Rattle.std.specs.Prelude.{◌≡◌, IfOk};
 ghost use Rattle.std.specs.Option.{option_map, option_copied};
 ghost use Rattle.au_effects.specs.Values.{made, reference, fields_of, optional};
 ghost use Rattle.au_effects.specs.Numbers.{truth_in, text_in};
-ghost use Rattle.au_effects.specs.Calls.{reference_in, root_in, box_in, buffer_in, terminal_in};
-ghost use Rattle.au_cells.specs.Cells.{low, lows, place_of, lent, taken_apart, apart_of};
+ghost use Rattle.au_effects.specs.Calls.{root_in, box_in, buffer_in, terminal_in};
+ghost use Rattle.au_effects.specs.References.{reference_in};
+ghost use Rattle.au_cells.specs.Cells.{low, lows, place_of, lent, taken_apart, apart_of, case_counted};
 
 use crate::cells::{Borrowed, Cell, Parts};
 use au_base::Memory;
@@ -84,6 +85,16 @@ pub fn reference_in(cell: &Cell) -> Option<&Borrowed>
 {
     match cell {
         Cell::Reference(one) => Some(one),
+        _ => None,
+    }
+}
+
+/// The number of the case of a value of a record or a union, and how many fields it has.
+pub fn case_of(cell: &Cell) -> Option<(u32, usize)>
+    ensures { result ≡ option_map case_counted (taken_apart (low cell.now)) }
+{
+    match cell {
+        Cell::Made(parts) => Some((parts.tag, parts.fields.len())),
         _ => None,
     }
 }

@@ -33,9 +33,9 @@ use Rattle.au_closing.specs.Leading.{case_name, method_leads, module_name, shipp
 use Rattle.au_closing.proofs.ClosesLemmas.{instances_told}
 use Rattle.au_graphs.specs.Reached.{Has}
 use Rattle.au_graphs.proofs.HasLemmas.{has_it}
-use Rattle.au_meaning.specs.Acts.{begins, makes_value, new_names}
+use Rattle.au_meaning.specs.Acts.{begins, makes_value, new_names, closing, ends_frame}
 use Rattle.au_meaning.specs.Expressions.{calls, acts, copies}
-use Rattle.au_meaning.specs.Meanings.{enters, leaves_frame}
+use Rattle.au_meaning.specs.Meanings.{enters, returned}
 use Rattle.au_meaning.specs.Names.{with_parameters}
 use Rattle.au_meaning.specs.Ticks.{Action, pure, needing, where_true, does, ◌>>=◌, ◌>>◌}
 use Rattle.au_meaning.specs.Views.{Act, Field, View, invokes, makes}
@@ -66,10 +66,11 @@ pub enters_same : {I J T C U D : Type 0} (known : ClosedType → Bool) (change :
 enters_same known change one two agree invoke other depth first parameters body count ok =
     λ i args. where_true (length args == length parameters) (do
       does (begins (new_names first args (names_same_block change body i)))
-      flow ← one_meaning known change one two invoke other depth (first + length args)
+      value ← closing (one_meaning known change one two invoke other depth (first + length args)
           (with_parameters first parameters []) body agree
-          (parameters_count known first parameters count [] tt) ok i
-      leaves_frame flow)
+          (parameters_count known first parameters count [] tt) ok i >>= returned)
+      does ends_frame
+      pure value)
 
 -- ---- calls
 
@@ -164,6 +165,7 @@ module _ (program : List ModuleParts) (noted : List NotedParts) (all : List Inst
       mentions = λ note name. refl;
       fields = λ of c tag. sym (says.fields home of c tag);
       inside = counts.inside;
+      references = counts.references;
       tags = λ of c name. sym (says.tags home of c (case_name program place name));
     }
 

@@ -1,14 +1,19 @@
 -- The types that count: those of variables in scope, of fields, and of parts of records.
-use Rattle.std.proofs.Common.{◌≡◌, ℕ, ◌+◌, Bool, true, false, List, [], ◌∷◌, Option, Some, None, refl, ap, ◌∙◌}
-use Rattle.std.specs.Prelude.{cond, if◌then◌else◌, option_map}
+use Rattle.std.proofs.Common.{◌≡◌, ℕ, ◌+◌, Bool, true, false, List, [], ◌∷◌, Option, Some, None, refl, sym}
+use Rattle.std.proofs.Common.{ap, ◌∙◌}
+use Rattle.std.specs.Prelude.{cond, if◌then◌else◌, map, option_map}
 use Rattle.std.specs.Str.{bytes_eq}
 use Rattle.au_closed_trees.specs.Changes.{Change}
+use Rattle.au_type_texts.specs.Types as types
 use Rattle.au_type_texts.specs.Types.{ClosedType}
 use Rattle.au_effects.specs.Parts.{along}
 use Rattle.au_meaning.specs.Names.{Scope, Variable, variable_of, with_name, with_bound, with_parameters}
-use Rattle.au_meaning.specs.Names.{bound_name, path_numbers, field_from, field_of}
+use Rattle.au_meaning.specs.Names.{bound_name, path_numbers, field_from, field_of, target_behind, borrowed}
+use Rattle.au_meaning.specs.Names.{type_in, told_type, fields_through}
 use Rattle.au_meaning.specs.Views.{Field, View}
 use Rattle.au_closed_meanings.specs.Agreement.{AgreeOnTypes, Counts, FieldsCount, FoundCount, ScopeCounts}
+use Rattle.au_syntax.specs.declared.expressions.BorrowMode.{BorrowMode}
+use Rattle.au_syntax.specs.declared.expressions.BorrowMode.TheVariants as mode
 use Rattle.au_syntax.specs.Plain.{Bytes}
 use Rattle.au_syntax.specs.Types.{Bound}
 
@@ -80,20 +85,56 @@ stepped see names f =
 
 module _ {I J T C U D : Type 0} (known : ClosedType → Bool) (change : Change Bytes T C U D) (one : View I T C)
     (two : View J U D) (agree : AgreeOnTypes known change one two) where
-  pub fields_by : (o : Option ClosedType) → Counts known o → (tag : ℕ)
-      → along o (λ of. one.fields of tag) ≡ along o (λ of. two.fields of tag)
-  fields_by None c tag = refl
-  fields_by (Some of) c tag = agree.fields of c tag
+  pub fields_by : (o : Option ClosedType) → Counts known o
+      → along o (λ of. one.fields of 0) ≡ along o (λ of. two.fields of 0)
+  fields_by None c = refl
+  fields_by (Some of) c = agree.fields of c 0
 
-  pub found_by : (o : Option ClosedType) → Counts known o → (tag : ℕ)
-      → FoundCount known (along o (λ of. one.fields of tag))
-  found_by None c tag = tt
-  found_by (Some of) c tag = agree.inside of c tag
+  pub found_by : (o : Option ClosedType) → Counts known o
+      → FoundCount known (along o (λ of. one.fields of 0))
+  found_by None c = tt
+  found_by (Some of) c = agree.inside of c 0
+
+  -- the union that a `case` tells apart counts, and the fields that its arms bind
+  told_counts : (of : ClosedType) → known of ≡ true → known (told_type of) ≡ true
+  told_counts (types.reads of) c = sym (agree.references.reads of) ∙ c
+  told_counts (types.writes of) c = sym (agree.references.writes of) ∙ c
+  told_counts other c = c
 
   pub tags_by : (o : Option ClosedType) → Counts known o → (name : Bytes)
-      → along o (λ of. one.tag of name) ≡ along o (λ of. two.tag of (change.arm name))
+      → along o (λ of. one.tag (told_type of) name) ≡ along o (λ of. two.tag (told_type of) (change.arm name))
   tags_by None c name = refl
-  tags_by (Some of) c name = agree.tags of c name
+  tags_by (Some of) c name = agree.tags (told_type of) (told_counts of c) name
+
+  pub told_by : (o : Option ClosedType) → Counts known o → (tag : ℕ)
+      → along o (λ of. fields_through of (one.fields (told_type of) tag))
+      ≡ along o (λ of. fields_through of (two.fields (told_type of) tag))
+  told_by None c tag = refl
+  told_by (Some of) c tag = ap (fields_through of) (agree.fields (told_type of) (told_counts of c) tag)
+
+  reading_count : (fields : List Field) → FieldsCount known fields
+      → FieldsCount known (map (λ (field : Field). record field { of = types.reads field.of }) fields)
+  reading_count [] c = tt
+  reading_count (field ∷ rest) c = (agree.references.reads field.of ∙ c.0, reading_count rest c.1)
+
+  writing_count : (fields : List Field) → FieldsCount known fields
+      → FieldsCount known (map (λ (field : Field). record field { of = types.writes field.of }) fields)
+  writing_count [] c = tt
+  writing_count (field ∷ rest) c = (agree.references.writes field.of ∙ c.0, writing_count rest c.1)
+
+  through_count : (of : ClosedType) (fields : Option (List Field)) → FoundCount known fields
+      → FoundCount known (fields_through of fields)
+  through_count (types.reads of) None c = tt
+  through_count (types.reads of) (Some fields) c = reading_count fields c
+  through_count (types.writes of) None c = tt
+  through_count (types.writes of) (Some fields) c = writing_count fields c
+  through_count other fields c = c
+
+  pub told_found : (o : Option ClosedType) → Counts known o → (tag : ℕ)
+      → FoundCount known (along o (λ of. fields_through of (one.fields (told_type of) tag)))
+  told_found None c tag = tt
+  told_found (Some of) c tag =
+      through_count of (one.fields (told_type of) tag) (agree.inside (told_type of) (told_counts of c) tag)
 
   step_same : (names : List Bytes)
       → ((of : ClosedType) → known of ≡ true
@@ -124,3 +165,23 @@ module _ {I J T C U D : Type 0} (known : ClosedType → Bool) (change : Change B
       steps_same name names (λ t there. paths_same names (Some t) there) (one.fields of 0)
       (agree.inside of c 0)
       ∙ ap (λ fields. along (along fields (field_of name)) (stepped two names)) (agree.fields of c 0)
+
+  -- what stands behind a reference, and the reference that a borrow gives
+  pub behind_counts : (o : Option ClosedType) → Counts known o → Counts known (target_behind o)
+  behind_counts None c = tt
+  behind_counts (Some (types.reads of)) c = sym (agree.references.reads of) ∙ c
+  behind_counts (Some (types.writes of)) c = sym (agree.references.writes of) ∙ c
+  behind_counts (Some other) c = tt
+
+  borrowed_counts : (mode : BorrowMode) (o : Option ClosedType) → Counts known o
+      → Counts known (borrowed mode o)
+  borrowed_counts mode.Read None c = tt
+  borrowed_counts mode.Read (Some of) c = agree.references.reads of ∙ c
+  borrowed_counts mode.Write None c = tt
+  borrowed_counts mode.Write (Some of) c = agree.references.writes of ∙ c
+  borrowed_counts mode.Reborrow o c = c
+
+  pub reference_counts : (mode : BorrowMode) (x : Option Variable) → VariableCounts known x
+      → Counts known (borrowed mode (type_in x))
+  reference_counts mode None c = borrowed_counts mode None tt
+  reference_counts mode (Some x) c = borrowed_counts mode x.of c

@@ -103,7 +103,7 @@ module _ {T C A : Type 0} (same : A → A → Bool) (all : List A) (leads : T �
           (known_later known _ _ k),
     )
     each (parenthesized n e) w k = each e w (known_later known _ _ k)
-    each (dereference n e) w k = tt
+    each (dereference n e) w k = each e w (known_later known _ _ k)
     each (borrow n m x) w k = tt
     each (borrow_part n x fields) w k = tt
     each (binary n op a b) w k =
@@ -155,7 +155,7 @@ module _ {T C A : Type 0} (same : A → A → Bool) (all : List A) (leads : T �
     each_of (declare at b n t e) w k = (here e k, each e w k)
     each_of (destructure at binds e) w k = (here e k, each e w k)
     each_of (assign at n fields e) w k = each e w k
-    each_of (assign_through at n fields e) w k = tt
+    each_of (assign_through at n fields e) w k = each e w k
     each_of (conditional at tests) w k = each_tests tests w k
     each_of (conditional_else at tests b) w k = (
       each_tests tests (front same all (calls_in_branches leads tests) (calls_in_block leads b) w)
@@ -189,8 +189,8 @@ module _ {T C A : Type 0} (same : A → A → Bool) (all : List A) (leads : T �
           each_block b (back same all some (calls_in_block leads b) w)
               (known_back known these (said_in_block types b) k),
         )
-    each_of (borrow_in at access x r region b stop) w k = tt
-    each_of (borrow_typed at r t mode x b stop) w k = tt
+    each_of (borrow_in at access x r region b stop) w k = each_block b w k
+    each_of (borrow_typed at r t mode x b stop) w k = each_block b w k
     each_of (discard at e) w k = each e w k
     each_of (return_of at e) w k = each e w k
 

@@ -9,7 +9,6 @@ use Rattle.au_closed_meanings.specs.Surroundings.{field_names}
 use Rattle.au_typing.specs.Trees.{NotedParts}
 use Rattle.au_closing.specs.Closes.{ClosedFunction}
 use Rattle.au_closing.specs.Instances.{Instance}
-use Rattle.au_closing.proofs.ClosesLemmas.{place_back}
 use Rattle.au_meaning.specs.Meanings.{mean}
 use Rattle.au_closed_meanings.specs.Closed.{function_closed, names_at, parameters_seen}
 use Rattle.au_closed_meanings.specs.InRow.{KeepsMeaningInRow, body_seen}
@@ -41,7 +40,7 @@ names_seen functions number =
 -- an instance numbers its names as the function in its place does
 pub numbered_alike : (program : List ModuleParts) (noted : List NotedParts) (all : List Instance)
     → NumberAlike all (first_name program noted) (numbers_of program noted all)
-numbered_alike program noted all one here = sym (ap (first_of program noted) (place_back all one here))
+numbered_alike program noted all place one there = sym (ap (first_of program noted) there)
 
 pub kept_in_row : KeepsMeaningInRow
 kept_in_row program noted entry functions closes rows known say counts input ticks =

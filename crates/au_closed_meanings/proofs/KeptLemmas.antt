@@ -171,7 +171,7 @@ module _ (program : List ModuleParts) (noted : List NotedParts) (entry : Instanc
         ap (λ b. enters invoke depth (option_map (function_under program noted (first one) one.given) b)) is.1
         ∙ body_same invoke other (closing_at depth) depth (first one) one here is.0 is.2 is.1
         ∙ ap (λ n. enters other depth (Some (function_closed round n
-        (body_closed program noted all one.given is.0)))) (alike one here)
+        (body_closed program noted all one.given is.0)))) (alike (place_in one all) one (place_back all one here))
         ∙ sym (ap (λ f. enters other depth
         (option_map (function_closed round (numbers (place_in one all))) f)) is.2)
 
@@ -215,6 +215,7 @@ what_is program functions = (
     parameters = λ number f at. fields_count (parameters_seen f);
     notes = λ number f at of h. refl;
     inside = λ of k tag. found_count (fields_in program of tag);
+    references = record { reads = λ of. refl; writes = λ of. refl };
   },
 )
 

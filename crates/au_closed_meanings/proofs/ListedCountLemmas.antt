@@ -33,8 +33,8 @@ module _ (all : List ClosedType) (counts : DeclAt → Bool) where
       let rest = if counts at then all_occurring counts args else [] in
       h (named at args) (Contains-append_left (named at args ∷ []) rest (named at args)
       (Contains-push [] (named at args)))
-  type_counts (reads to) h = refl
-  type_counts (writes to) h = refl
+  type_counts (reads to) h = type_counts to h
+  type_counts (writes to) h = type_counts to h
 
   fields_count : (fields : List ClosedField)
       → ((of : ClosedType) → Contains (occurring_in_fields counts fields) of → Has same all of)
@@ -96,4 +96,5 @@ listed_count program functions all lists = record {
       (types_noted (heads_of program)) (note_counts program all) f.body
       (record { each = lists.notes number f at })).each;
   inside = inside_counts program all lists.inside;
+  references = record { reads = λ of. refl; writes = λ of. refl };
 }

@@ -1,5 +1,6 @@
 -- Names are numbered body after body, and each body stands at its place.
-use Rattle.std.proofs.Common.{◌≡◌, ℕ, zero, suc, ◌+◌, ◌<◌, ◌≤◌, Bool, true, false, cond, List, [], ◌∷◌, ◌++◌}
+use Rattle.std.proofs.Common.{◌≡◌, ◌⊎◌, inl, inr, ℕ, zero, suc, ◌+◌, ◌<◌, ◌≤◌, Bool, true, false, cond, List, []}
+use Rattle.std.proofs.Common.{◌∷◌, ◌++◌}
 use Rattle.std.proofs.Common.{length, map, take, Option, Some, None, refl, sym, ap, subst, ◌∙◌, arith}
 use Rattle.std.proofs.Common.{length-append}
 use Rattle.std.specs.Prelude.{find, slice_get, if◌then◌else◌}
@@ -14,10 +15,9 @@ use Rattle.au_names.specs.Standing.{Standing, standing_at}
 use Rattle.au_typing.specs.Trees.{NotedDeclaration, NotedMethod, NotedParts}
 use Rattle.au_closing.specs.Bodies.{BodyOf, body_at, body_in, body_of, body_of_parts, body_standing}
 use Rattle.au_closing.specs.Bodies.{defining_index, is_method, method_body, noted_at}
-use Rattle.au_closed_meanings.specs.Numbers.{BodiesStand, NumbersAreApart, WrittenBody, bodies_in, bodies_of}
-use Rattle.au_closed_meanings.specs.Numbers.{bodies_written, method_place, method_written, names_before}
-use Rattle.au_closed_meanings.specs.Numbers.{names_of, names_of_all, place_behind, place_inside}
-use Rattle.au_closed_meanings.specs.Numbers.{place_standing}
+use Rattle.au_closed_meanings.specs.Numbers.{BodiesStand, NumbersAreApart, FirstNamesAreApart, IsNameOf, bodies_in}
+use Rattle.au_closed_meanings.specs.Numbers.{bodies_from, bodies_of, bodies_written, body_place, method_place}
+use Rattle.au_closed_meanings.specs.Numbers.{names_before, names_of, place_behind, place_inside, place_standing}
 
 -- ---- lists
 
@@ -40,13 +40,9 @@ flat_there f (x0 ∷ xs) (suc i) m x y e h =
 
 -- ---- methods and declarations
 
--- the body of a function or a method, as it is written
-abbrev written : BodyOf → WrittenBody
-written body = record { header = body.header; block = body.block }
-
 method_there : (place : ℕ) (generics : List (Constrained Bytes)) (name : Bytes) (methods : List NotedMethod)
     (body : BodyOf) → option_map (method_body place generics) (find (is_method name) methods) ≡ Some body
-    → slice_get (map method_written methods) (method_place name methods) ≡ Some (written body)
+    → slice_get (map (method_body place generics) methods) (method_place name methods) ≡ Some body
 method_there place generics name [] body e = absurd cc
 method_there place generics name (m ∷ rest) body e =
     by (is_method name m) e (method_there place generics name rest body)
@@ -54,16 +50,15 @@ method_there place generics name (m ∷ rest) body e =
     by : (b : Bool)
         → option_map (method_body place generics) (cond b (Some m) (find (is_method name) rest)) ≡ Some body
         → (option_map (method_body place generics) (find (is_method name) rest) ≡ Some body
-        → slice_get (map method_written rest) (method_place name rest) ≡ Some (written body))
-        → slice_get (method_written m ∷ map method_written rest)
-        (if b then zero else suc (method_place name rest)) ≡ Some (written body)
-    by true e later =
-        let same : method_body place generics m ≡ body = cc in ap (λ b. Some (written b)) same
+        → slice_get (map (method_body place generics) rest) (method_place name rest) ≡ Some body)
+        → slice_get (method_body place generics m ∷ map (method_body place generics) rest)
+        (if b then zero else suc (method_place name rest)) ≡ Some body
+    by true e later = e
     by false e later = later e
 
 declaration_there : (place : ℕ) (name : Bytes) (d : NotedDeclaration) (body : BodyOf)
     → body_in place name d ≡ Some body
-    → slice_get (bodies_in d) (place_inside name (Some d)) ≡ Some (written body)
+    → slice_get (bodies_in place d) (place_inside name (Some d)) ≡ Some body
 declaration_there place name (constant at n t) body e = absurd cc
 declaration_there place name (opaque_type at n ps u) body e = absurd cc
 declaration_there place name (record_type at n ps u fields) body e = absurd cc
@@ -72,41 +67,65 @@ declaration_there place name (function at gs h) body e = absurd cc
 declaration_there place name (class at n p hs) body e = absurd cc
 declaration_there place name (instance at gs n t) body e = absurd cc
 declaration_there place name (constant_body at n t value) body e = absurd cc
-declaration_there place name (function_body at gs h block stop) body e =
-    let same : record { place = place; generics = gs; header = h; block = block } ≡ body = cc in
-    ap (λ b. Some (written b)) same
+declaration_there place name (function_body at gs h block stop) body e = e
 declaration_there place name (instance_body at gs n t methods) body e =
     method_there place gs name methods body e
+
+-- ---- modules
+
+-- what stands in one of several modules stands in all of them, behind those before
+from_there : (from : ℕ) (noted : List NotedParts) (i m : ℕ) (parts : NotedParts) (body : BodyOf)
+    → slice_get noted i ≡ Some parts → slice_get (bodies_of (from + i) (Some parts)) m ≡ Some body
+    → slice_get (bodies_from from noted) (length (bodies_from from (take i noted)) + m) ≡ Some body
+from_there from [] i m parts body e h = absurd cc
+from_there from (first ∷ rest) zero m parts body e h =
+    let here : first ≡ parts = cc in
+    let same : from ≡ from + 0 = omega arith in
+    ap (slice_get (bodies_from from (first ∷ rest))) (let none : 0 + m ≡ m = omega arith in none)
+    ∙ get_front (bodies_of from (Some first)) (bodies_from (from + 1) rest) m body
+    (ap (λ z. slice_get (bodies_of from (Some z)) m) here
+    ∙ ap (λ n. slice_get (bodies_of n (Some parts)) m) same ∙ h)
+from_there from (first ∷ rest) (suc i) m parts body e h =
+    let own = bodies_of from (Some first) in
+    let before = bodies_from (from + 1) (take i rest) in
+    let same : from + 1 + i ≡ from + suc i = omega arith in
+    ap (slice_get (own ++ bodies_from (from + 1) rest))
+    (let behind : length (own ++ before) + m ≡ length own + (length before + m) =
+    omega (arith, length-append own before) in behind)
+    ∙ get_right own (bodies_from (from + 1) rest) (length before + m)
+    ∙ from_there (from + 1) rest i m parts body e (ap (λ n. slice_get (bodies_of n (Some parts)) m) same ∙ h)
 
 module _ (program : List ModuleParts) (noted : List NotedParts) (name : Bytes) (body : BodyOf) where
   -- the module at a place has a body where there is a declaration in it
   module_there : (place : ℕ) (o : Option NotedParts) → slice_get noted place ≡ o → (m : ℕ)
-      → slice_get (flat_map bodies_in (body_of_parts o)) m ≡ Some (written body)
-      → slice_get (bodies_written noted) (length (flat_map bodies_of (take place noted)) + m)
-      ≡ Some (written body)
+      → slice_get (bodies_of place o) m ≡ Some body
+      → slice_get (bodies_written noted) (length (bodies_from 0 (take place noted)) + m) ≡ Some body
   module_there place None there m e = absurd cc
-  module_there place (Some parts) there m e = flat_there bodies_of noted place m parts (written body) there e
+  module_there place (Some parts) there m e =
+      let same : 0 + place ≡ place = omega arith in
+      from_there 0 noted place m parts body there
+      (ap (λ n. slice_get (bodies_of n (Some parts)) m) same ∙ e)
 
   index_there : (place : ℕ) (index : Option ℕ)
       → option_and_then (body_in place name) (noted_at noted place index) ≡ Some body
-      → slice_get (bodies_written noted) (place_behind program noted place name index) ≡ Some (written body)
+      → slice_get (bodies_written noted) (place_behind program noted place name index) ≡ Some body
   index_there place None e = absurd cc
   index_there place (Some index) e = by (slice_get (body_at noted place) index) refl e
     where
       by : (o : Option NotedDeclaration) → slice_get (body_at noted place) index ≡ o
           → option_and_then (body_in place name) o ≡ Some body
           → slice_get (bodies_written noted)
-          (length (flat_map bodies_of (take place noted))
-          + (length (flat_map bodies_in (take index (body_at noted place))) + place_inside name o))
-          ≡ Some (written body)
+          (length (bodies_from 0 (take place noted))
+          + (length (flat_map (bodies_in place) (take index (body_at noted place))) + place_inside name o))
+          ≡ Some body
       by None there e = absurd cc
       by (Some d) there e =
           module_there place (slice_get noted place) refl _
-          (flat_there bodies_in (body_at noted place) index (place_inside name (Some d)) d (written body) there
+          (flat_there (bodies_in place) (body_at noted place) index (place_inside name (Some d)) d body there
           (declaration_there place name d body e))
 
   standing_there : (o : Option Standing) → body_standing program noted name o ≡ Some body
-      → slice_get (bodies_written noted) (place_standing program noted name o) ≡ Some (written body)
+      → slice_get (bodies_written noted) (place_standing program noted name o) ≡ Some body
   standing_there None e = absurd cc
   standing_there (Some d) e = index_there d.place (defining_index program d d.part) e
 
@@ -128,3 +147,40 @@ numbers_apart (x ∷ xs) (suc place) (suc other) b less e =
     let later : names_before xs place + names_of b ≤ names_before xs other =
     numbers_apart xs place other b (omega arith) e in
     omega (arith, later)
+
+-- two places are one, or one of them stands before the other
+compared : (place other : ℕ) → (place < other) ⊎ ((place ≡ other) ⊎ (other < place))
+compared zero zero = inr (inl refl)
+compared zero (suc other) = inl (omega arith)
+compared (suc place) zero = inr (inr (omega arith))
+compared (suc place) (suc other) = by (compared place other)
+  where
+    by : (place < other) ⊎ ((place ≡ other) ⊎ (other < place))
+        → (suc place < suc other) ⊎ ((suc place ≡ suc other) ⊎ (suc other < suc place))
+    by (inl less) = inl (omega (arith, less))
+    by (inr (inl same)) = inr (inl (ap (λ n. suc n) same))
+    by (inr (inr more)) = inr (inr (omega (arith, more)))
+
+-- of two bodies in their places, that share the number of a name
+shared : (bodies : List BodyOf) (place other n : ℕ) (body another : BodyOf)
+    → slice_get bodies place ≡ Some body → slice_get bodies other ≡ Some another
+    → IsNameOf body (names_before bodies place) n → IsNameOf another (names_before bodies other) n
+    → (place < other) ⊎ ((place ≡ other) ⊎ (other < place))
+    → (body ≡ another) × (names_before bodies place ≡ names_before bodies other)
+shared bodies place other n body another one two h k (inl less) =
+    let apart = numbers_apart bodies place other body less one in
+    absurd (omega (arith, apart, h.1, k.0))
+shared bodies place other n body another one two h k (inr (inl same)) =
+    let there : Some body ≡ Some another = sym one ∙ ap (slice_get bodies) same ∙ two in
+    let is : body ≡ another = cc in
+    (is, ap (names_before bodies) same)
+shared bodies place other n body another one two h k (inr (inr more)) =
+    let apart = numbers_apart bodies other place another more two in
+    absurd (omega (arith, apart, k.1, h.0))
+
+pub first_names_apart : FirstNamesAreApart
+first_names_apart program noted one other n body another is too h k =
+    let place = body_place program noted one.of in
+    let behind = body_place program noted other.of in
+    shared (bodies_written noted) place behind n body another (bodies_stand program noted one.of body is)
+    (bodies_stand program noted other.of another too) h k (compared place behind)

@@ -5,17 +5,19 @@ use Rattle.au_closed_trees.specs.Renoted.{expression_renoted, expressions_renote
 use Rattle.au_type_texts.specs.Types.{ClosedType}
 use Rattle.au_effects.specs.Numbers.{computed, compared, negated}
 use Rattle.au_effects.specs.Values as values
-use Rattle.au_meaning.specs.Acts.{looks, by_position, by_labels}
+use Rattle.au_effects.specs.References.{reference_in, referring}
+use Rattle.au_meaning.specs.Acts.{looks, refers, reads, lends, closing, by_position, by_labels}
 use Rattle.au_meaning.specs.Expressions.{note_of, names_of, labels, labelled, Operation, computes, compares}
 use Rattle.au_meaning.specs.Expressions.{is_and, is_or, operation_of, kind_in, compared_kind, literal, chosen}
-use Rattle.au_meaning.specs.Expressions.{looks_into, operates, joins, eval, eval_all, eval_named}
-use Rattle.au_meaning.specs.Names.{Scope, Variable, variable_of}
+use Rattle.au_meaning.specs.Expressions.{alone, operand, looks_into, reaches, operates, joins, eval, eval_all}
+use Rattle.au_meaning.specs.Expressions.{eval_named, whole}
+use Rattle.au_meaning.specs.Names.{Scope, Variable, variable_of, target_behind}
 use Rattle.au_meaning.specs.Ticks.{Action, pure, tick, needing, comes, ◌>>=◌}
 use Rattle.au_meaning.specs.Views.{View}
 use Rattle.au_meaning.specs.Worlds.{Value}
 use Rattle.au_closed_meanings.specs.Agreement.{EachIn, EachInAll, EachNamed, AgreeOnTypes, AgreeOnMention}
 use Rattle.au_closed_meanings.specs.Agreement.{AgreeOnCall, ScopeCounts}
-use Rattle.au_closed_meanings.proofs.CountLemmas.{VariableCounts, paths_same, variable_counts}
+use Rattle.au_closed_meanings.proofs.CountLemmas.{VariableCounts, paths_same, behind_counts, variable_counts}
 use Rattle.au_syntax.specs.Expressions.{Expression, Expressions, Arguments, number, negative, text, truth}
 use Rattle.au_syntax.specs.Expressions.{nil, path, arrow, call, named_call, parenthesized, dereference}
 use Rattle.au_syntax.specs.Expressions.{borrow, borrow_part, binary, negation, typed, choice, no_expressions}
@@ -71,6 +73,32 @@ module _ {I J T C U D : Type 0} (known : ClosedType → Bool) (change : Change B
       looks_same (variable_of scope name) (variable_counts known scope h name) names
       ∙ ap (λ z. looks_into two (variable_of z name) names) s
 
+  reaches_same : (r : Option Variable) → VariableCounts known r → (names : List Bytes)
+      → reaches one r names ≡ reaches two r names
+  reaches_same None c names = refl
+  reaches_same (Some r) c names =
+      λ i. needing (paths_same known change one two agree names (target_behind r.of)
+      (behind_counts known change one two agree r.of c) i) (refers r.number)
+
+  -- a part of what the reference in the variable refers to that a name means
+  pub reaches_seen : (scope scope2 : Scope) → ScopeCounts known scope → scope ≡ scope2 → (name : Bytes)
+      → (names : List Bytes)
+      → reaches one (variable_of scope name) names ≡ reaches two (variable_of scope2 name) names
+  reaches_seen scope scope2 h s name names =
+      reaches_same (variable_of scope name) (variable_counts known scope h name) names
+      ∙ ap (λ z. reaches two (variable_of z name) names) s
+
+  -- the variable that an expression is
+  alone_same : (scope : Scope) (e : Expression Bytes T C)
+      → alone scope e ≡ alone scope (expression_renoted change e)
+  alone_same scope (path n x []) = refl
+  alone_same scope (parenthesized n e) = alone_same scope e
+  alone_same scope other = refl
+
+  alone_seen : (scope scope2 : Scope) → scope ≡ scope2 → (e : Expression Bytes T C)
+      → alone scope e ≡ alone scope2 (expression_renoted change e)
+  alone_seen scope scope2 s e = alone_same scope e ∙ ap (λ z. alone z (expression_renoted change e)) s
+
   labels_same : (args : Arguments Bytes T C) → labels args ≡ labels (arguments_renoted change args)
   labels_same no_arguments = refl
   labels_same (arguments label e rest) = λ i. label.name ∷ labels_same rest i
@@ -107,7 +135,8 @@ module _ {I J T C U D : Type 0} (known : ClosedType → Bool) (change : Change B
       eval_same (path n x []) ok h s = λ i. tick (ok (variable_of (s i) x.name) i)
       eval_same (path n x (field ∷ fields)) ok h s =
           λ i. tick (looks_seen _ _ h s x.name (names_of (field ∷ fields)) i)
-      eval_same (arrow n r fields) ok h s = refl
+      eval_same (arrow n r fields) ok h s =
+          λ i. tick (reaches_seen _ _ h s r.name (names_of fields) i >>= reads)
       eval_same (call n f args c) ok h s = λ i. do
         values ← all_same args ok.1 h s i
         tick (ok.0 (by_position values) i)
@@ -115,9 +144,13 @@ module _ {I J T C U D : Type 0} (known : ClosedType → Bool) (change : Change B
         values ← named_same args ok.1 h s i
         tick (ok.0 (by_labels (labelled (labels_same args i) values)) i)
       eval_same (parenthesized n e) ok h s = eval_same e ok h s
-      eval_same (dereference n e) ok h s = refl
-      eval_same (borrow n mode x) ok h s = refl
-      eval_same (borrow_part n r fields) ok h s = refl
+      eval_same (dereference n e) ok h s = λ i. do
+        x ← operand (alone_seen _ _ s e i) (eval_same e ok h s i)
+        tick (needing (reference_in x) reads)
+      eval_same (borrow n mode x) ok h s =
+          λ i. tick (needing (variable_of (s i) x.name) (λ x. lends mode x.number))
+      eval_same (borrow_part n r fields) ok h s =
+          λ i. tick (reaches_seen _ _ h s r.name (names_of fields) i >>= (λ one. pure (referring one)))
       eval_same (binary n op a b) ok h s =
           joins_same (operation_of op) n.note (note_of a) (change.note n.note)
           (note_of (expression_renoted change a))
@@ -149,3 +182,9 @@ module _ {I J T C U D : Type 0} (known : ClosedType → Bool) (change : Change B
         value ← eval_same e ok.0 h s i
         values ← named_same rest ok.1 h s i
         pure (value ∷ values)
+
+    pub whole_same : {scope scope2 : Scope} (e : Expression Bytes T C)
+        → EachIn (AgreeOnMention known change one two)
+        (AgreeOnCall known change one two invoke other) e → ScopeCounts known scope → scope ≡ scope2
+        → whole one invoke scope e ≡ whole two other scope2 (expression_renoted change e)
+    whole_same e ok h s = λ i. closing (eval_same e ok h s i)

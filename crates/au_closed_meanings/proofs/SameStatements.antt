@@ -6,13 +6,16 @@ use Rattle.au_closed_trees.specs.Renoted.{branches_renoted, arms_renoted}
 use Rattle.au_type_texts.specs.Types.{ClosedType}
 use Rattle.au_effects.specs.Parts.{along}
 use Rattle.au_effects.specs.Values as values
-use Rattle.au_meaning.specs.Acts.{holds, sets, apart}
-use Rattle.au_meaning.specs.Expressions.{note_of, names_of, chosen, eval}
+use Rattle.au_meaning.specs.Acts.{holds, sets, puts, apart, tells_apart}
+use Rattle.au_meaning.specs.Expressions.{note_of, names_of, chosen, whole}
 use Rattle.au_meaning.specs.Names.{Scope, Variable, variable_of, with_name, with_bound, names_in}
-use Rattle.au_meaning.specs.Names.{names_in_block, names_in_tests, names_in_arms}
+use Rattle.au_meaning.specs.Names.{names_in_block, names_in_tests, names_in_arms, mode_of, with_reference}
+use Rattle.au_meaning.specs.Names.{told_type, fields_through}
 use Rattle.au_meaning.specs.Statements.{Flow, falls, returns, and_then, within, while_turns, ranges, either}
-use Rattle.au_meaning.specs.Statements.{is_tag, binds_fields, fields_noted, means_case, after, assigns}
-use Rattle.au_meaning.specs.Statements.{takes_apart, run, run_all, run_tests, run_arms}
+use Rattle.au_meaning.specs.Statements.{is_tag, lending, binds_borrow, binds_fields, fields_noted}
+use Rattle.au_meaning.specs.Statements.{fields_told, means_case}
+use Rattle.au_meaning.specs.Statements.{after, assigns, assigns_behind, takes_apart, run, run_all, run_tests}
+use Rattle.au_meaning.specs.Statements.{run_arms}
 use Rattle.au_meaning.specs.Ticks.{Action, pure, tick, needing, where_true, ◌>>=◌, ◌>>◌}
 use Rattle.au_meaning.specs.Views.{View}
 use Rattle.au_meaning.specs.Worlds.{Value}
@@ -20,8 +23,9 @@ use Rattle.au_closed_meanings.specs.Agreement.{EachIn, EachOf, EachOfBlock, Each
 use Rattle.au_closed_meanings.specs.Agreement.{AgreeOnTypes, AgreeOnMention, AgreeOnCall, Counts, OneMeaning}
 use Rattle.au_closed_meanings.specs.Agreement.{ScopeCounts}
 use Rattle.au_closed_meanings.proofs.CountLemmas.{VariableCounts, bound_counts, fields_by, found_by}
-use Rattle.au_closed_meanings.proofs.CountLemmas.{paths_same, tags_by, variable_counts}
-use Rattle.au_closed_meanings.proofs.SameExpressions.{type_same, eval_same}
+use Rattle.au_closed_meanings.proofs.CountLemmas.{told_by, told_found}
+use Rattle.au_closed_meanings.proofs.CountLemmas.{paths_same, tags_by, variable_counts, reference_counts}
+use Rattle.au_closed_meanings.proofs.SameExpressions.{type_same, reaches_seen, eval_same, whole_same}
 use Rattle.au_syntax.specs.Expressions.{Expression}
 use Rattle.au_syntax.specs.Plain.{Bytes}
 use Rattle.au_syntax.specs.Statements.{Statement, Statements, Branches, Arms, skip, declare, destructure}
@@ -73,11 +77,18 @@ module _ {I J T C U D : Type 0} (known : ClosedType → Bool) (change : Change B
   abbrev NoteCounts : T → Type 0
   NoteCounts n = Counts known (one.type_of n)
 
-  fields_same : (e : Expression Bytes T C) → NoteCounts (note_of e) → (tag : ℕ)
-      → fields_noted one (note_of e) tag ≡ fields_noted two (note_of (expression_renoted change e)) tag
-  fields_same e c tag =
-      fields_by known change one two agree (one.type_of (note_of e)) c tag
-      ∙ ap (λ o. along o (λ of. two.fields of tag)) (type_same known change one two agree e)
+  fields_same : (e : Expression Bytes T C) → NoteCounts (note_of e)
+      → fields_noted one (note_of e) ≡ fields_noted two (note_of (expression_renoted change e))
+  fields_same e c =
+      fields_by known change one two agree (one.type_of (note_of e)) c
+      ∙ ap (λ o. along o (λ of. two.fields of 0)) (type_same known change one two agree e)
+
+  told_same : (e : Expression Bytes T C) → NoteCounts (note_of e) → (tag : ℕ)
+      → fields_told one (note_of e) tag ≡ fields_told two (note_of (expression_renoted change e)) tag
+  told_same e c tag =
+      told_by known change one two agree (one.type_of (note_of e)) c tag
+      ∙ ap (λ o. along o (λ of. fields_through of (two.fields (told_type of) tag)))
+      (type_same known change one two agree e)
 
   means_same : (e : Expression Bytes T C) → NoteCounts (note_of e) → (name : Bytes) (tag : ℕ)
       → means_case one (note_of e) name tag
@@ -85,7 +96,8 @@ module _ {I J T C U D : Type 0} (known : ClosedType → Bool) (change : Change B
   means_same e c name tag =
       ap (is_tag tag)
       (tags_by known change one two agree (one.type_of (note_of e)) c name
-      ∙ ap (λ o. along o (λ of. two.tag of (change.arm name))) (type_same known change one two agree e))
+      ∙ ap (λ o. along o (λ of. two.tag (told_type of) (change.arm name)))
+      (type_same known change one two agree e))
 
   assigns_same : (x : Option Variable) → VariableCounts known x → (names : List Bytes) (value : Value)
       → assigns one x names value ≡ assigns two x names value
@@ -101,6 +113,15 @@ module _ {I J T C U D : Type 0} (known : ClosedType → Bool) (change : Change B
       assigns_same (variable_of scope name) (variable_counts known scope h name) names value
       ∙ ap (λ z. assigns two (variable_of z name) names value) s
 
+  behind_seen : (scope scope2 : Scope) → ScopeCounts known scope → scope ≡ scope2 → (name : Bytes)
+      → (names : List Bytes) (value : Value)
+      → assigns_behind one (variable_of scope name) names value
+      ≡ assigns_behind two (variable_of scope2 name) names value
+  behind_seen scope scope2 h s name names value = λ i. do
+    it ← reaches_seen known change one two agree scope scope2 h s name names i
+    puts it value
+    pure falls
+
   takes_same : {number number2 : ℕ} (e : Expression Bytes T C) → NoteCounts (note_of e) → number ≡ number2
       → (binds : List (Bound Bytes)) (value : Value)
       → takes_apart one number binds (note_of e) value
@@ -108,7 +129,7 @@ module _ {I J T C U D : Type 0} (known : ClosedType → Bool) (change : Change B
   takes_same e c p binds value =
       λ i. do
         parts ← apart value
-        where_true (parts.0 == 0) (binds_fields (p i) binds (fields_same e c 0 i) parts.1)
+        where_true (parts.0 == 0) (binds_fields (p i) binds (fields_same e c i) parts.1)
         pure falls
 
   -- ---- statements
@@ -117,8 +138,8 @@ module _ {I J T C U D : Type 0} (known : ClosedType → Bool) (change : Change B
     value_same : {scope scope2 : Scope} (e : Expression Bytes T C)
         → EachIn (AgreeOnMention known change one two)
         (AgreeOnCall known change one two invoke other) e → ScopeCounts known scope → scope ≡ scope2
-        → eval one invoke scope e ≡ eval two other scope2 (expression_renoted change e)
-    value_same e ok h s = eval_same known change one two agree invoke other e ok h s
+        → whole one invoke scope e ≡ whole two other scope2 (expression_renoted change e)
+    value_same e ok h s = whole_same known change one two agree invoke other e ok h s
 
     after_same : {number number2 : ℕ} {scope scope2 : Scope} (s : Statement Bytes T C)
         → EachOf NoteCounts (AgreeOnMention known change one two)
@@ -126,7 +147,7 @@ module _ {I J T C U D : Type 0} (known : ClosedType → Bool) (change : Change B
         → scope ≡ scope2 → after one number s scope ≡ after two number2 (statement_renoted change s) scope2
     after_same (declare at binding name t e) ok p s =
         λ i. with_name name.name (p i) (type_same known change one two agree e i) (s i)
-    after_same (destructure at binds e) ok p s = λ i. with_bound (fields_same e ok.0 0 i) (p i) binds (s i)
+    after_same (destructure at binds e) ok p s = λ i. with_bound (fields_same e ok.0 i) (p i) binds (s i)
     after_same other ok p s = s
 
     after_counts : (number : ℕ) (scope : Scope) (s : Statement Bytes T C)
@@ -135,8 +156,8 @@ module _ {I J T C U D : Type 0} (known : ClosedType → Bool) (change : Change B
         → ScopeCounts known (after one number s scope)
     after_counts number scope (declare at binding name t e) ok h = (ok.0, h)
     after_counts number scope (destructure at binds e) ok h =
-        bound_counts known (fields_noted one (note_of e) 0)
-        (found_by known change one two agree (one.type_of (note_of e)) ok.0 0) number binds scope h
+        bound_counts known (fields_noted one (note_of e))
+        (found_by known change one two agree (one.type_of (note_of e)) ok.0) number binds scope h
     after_counts number scope other ok h = h
 
     mutual
@@ -159,7 +180,10 @@ module _ {I J T C U D : Type 0} (known : ClosedType → Bool) (change : Change B
           λ i. do
             value ← value_same e ok h s i
             tick (assigns_seen _ _ h s x.name (names_of fields) value i)
-      run_same (assign_through at r fields e) ok p h s = refl
+      run_same (assign_through at r fields e) ok p h s =
+          λ i. do
+            value ← value_same e ok h s i
+            tick (behind_seen _ _ h s r.name (names_of fields) value i)
       run_same (conditional at tests) ok p h s = tests_same tests ok p h s refl
       run_same (conditional_else at tests block) ok p h s =
           tests_same tests ok.0 p h s (λ i.
@@ -169,7 +193,7 @@ module _ {I J T C U D : Type 0} (known : ClosedType → Bool) (change : Change B
       run_same (case_of at e all) ok p h s =
           λ i. do
             value ← value_same e ok.1 h s i
-            tick (apart value >>= (λ parts. arms_same e ok.0 all ok.2 p h s parts i))
+            tick (tells_apart value >>= (λ parts. arms_same e ok.0 all ok.2 p h s parts i))
       run_same (while_loop at e block) ok p h s =
           λ i. while_turns (suc depth) (value_same e ok.0 h s i)
           (within (p i) (names_same_block change block i) (all_same block ok.1 p h s i))
@@ -180,15 +204,27 @@ module _ {I J T C U D : Type 0} (known : ClosedType → Bool) (change : Change B
             tick (ranges (suc depth) (λ kind z. within (p i) (1 + names_same_block change block i)
                 (holds (p i) (values.number kind z) >> all_same block ok.3 (λ j. p j + 1) (ok.0, h)
                 (λ j. with_name name.name (p j) (type_same known change one two agree first j) (s j)) i)) a b)
-      run_same (borrow_in at access x r region block stop) ok p h s = refl
-      run_same (borrow_typed at r t mode x block stop) ok p h s = refl
+      run_same {scope = scope} (borrow_in at access x r region block stop) ok p h s =
+          let counts = reference_counts known change one two agree (mode_of access) (variable_of scope x.name)
+          (variable_counts known scope h x.name) in
+          λ i. lending (binds_borrow (p i) (mode_of access) (variable_of (s i) x.name))
+          (within (p i) (1 + names_same_block change block i)
+          (all_same block ok (λ j. p j + 1) (counts, h)
+          (λ j. with_reference (mode_of access) (variable_of (s j) x.name) (p j) r.name (s j)) i))
+      run_same {scope = scope} (borrow_typed at r t mode x block stop) ok p h s =
+          let counts = reference_counts known change one two agree mode (variable_of scope x.name)
+          (variable_counts known scope h x.name) in
+          λ i. lending (binds_borrow (p i) mode (variable_of (s i) x.name))
+          (within (p i) (1 + names_same_block change block i)
+          (all_same block ok (λ j. p j + 1) (counts, h)
+          (λ j. with_reference mode (variable_of (s j) x.name) (p j) r.name (s j)) i))
       run_same (discard at e) ok p h s =
           λ i. do
             value ← value_same e ok h s i
             tick (pure falls)
       run_same (return_of at e) ok p h s =
           λ i. do
-            value ← value_same e ok h s i
+            value ← eval_same known change one two agree invoke other e ok h s i
             tick (pure (returns value))
 
       pub all_same : {number number2 : ℕ} {scope scope2 : Scope} (block : Statements Bytes T C)
@@ -230,11 +266,11 @@ module _ {I J T C U D : Type 0} (known : ClosedType → Bool) (change : Change B
       arms_same e c (arms at name binds block rest) ok p h s parts =
           λ i. either (means_same e c name.name parts.0 i)
           (within (p i) (length binds + names_same_block change block i)
-          (binds_fields (p i) binds (fields_same e c parts.0 i) parts.1
+          (binds_fields (p i) binds (told_same e c parts.0 i) parts.1
           >> all_same block ok.0 (λ j. p j + length binds)
-          (bound_counts known (fields_noted one (note_of e) parts.0)
-          (found_by known change one two agree (one.type_of (note_of e)) c parts.0) _ binds _ h)
-          (λ j. with_bound (fields_same e c parts.0 j) (p j) binds (s j)) i))
+          (bound_counts known (fields_told one (note_of e) parts.0)
+          (told_found known change one two agree (one.type_of (note_of e)) c parts.0) _ binds _ h)
+          (λ j. with_bound (told_same e c parts.0 j) (p j) binds (s j)) i))
           (arms_same e c rest ok.1 (λ j. p j + (length binds + names_same_block change block j)) h s parts i)
 
 -- a block has one meaning

@@ -2,6 +2,7 @@
 use Rattle.std.specs.Prelude.{◌≡◌, ℕ, Bool, true, List, [], ◌∷◌, Option, None, Some}
 use Rattle.au_closed_trees.specs.Changes.{Change}
 use Rattle.au_closed_trees.specs.Renoted.{block_renoted}
+use Rattle.au_type_texts.specs.Types as types
 use Rattle.au_type_texts.specs.Types.{ClosedType}
 use Rattle.au_meaning.specs.Expressions.{mentions, calls, note_of}
 use Rattle.au_meaning.specs.Names.{Scope, Variable}
@@ -34,7 +35,7 @@ module _ {T C : Type 0} (mentioned : T → Bytes → Type 0) (called : T → C �
     EachIn (call n f args c) = called n.note c f.name × EachInAll args
     EachIn (named_call n f args c) = called n.note c f.name × EachNamed args
     EachIn (parenthesized n e) = EachIn e
-    EachIn (dereference n e) = Unit {0}
+    EachIn (dereference n e) = EachIn e
     EachIn (borrow n mode x) = Unit {0}
     EachIn (borrow_part n r fields) = Unit {0}
     EachIn (binary n op a b) = EachIn a × EachIn b
@@ -67,15 +68,15 @@ module _ {T C : Type 0} (noted : T → Type 0) (mentioned : T → Bytes → Type
       EachOf (declare at binding name t e) = noted (note_of e) × EachHere e
       EachOf (destructure at binds e) = noted (note_of e) × EachHere e
       EachOf (assign at x fields e) = EachHere e
-      EachOf (assign_through at r fields e) = Unit {0}
+      EachOf (assign_through at r fields e) = EachHere e
       EachOf (conditional at tests) = EachOfTests tests
       EachOf (conditional_else at tests block) = EachOfTests tests × EachOfBlock block
       EachOf (case_of at e all) = noted (note_of e) × EachHere e × EachOfArms all
       EachOf (while_loop at e block) = EachHere e × EachOfBlock block
       EachOf (for_loop at name first last block) =
           noted (note_of first) × EachHere first × EachHere last × EachOfBlock block
-      EachOf (borrow_in at access x r region block stop) = Unit {0}
-      EachOf (borrow_typed at r t mode x block stop) = Unit {0}
+      EachOf (borrow_in at access x r region block stop) = EachOfBlock block
+      EachOf (borrow_typed at r t mode x block stop) = EachOfBlock block
       EachOf (discard at e) = EachHere e
       EachOf (return_of at e) = EachHere e
 
@@ -117,12 +118,18 @@ module _ (known : ClosedType → Bool) where
   ScopeCounts [] = Unit {0}
   ScopeCounts (x ∷ rest) = Counts x.of × ScopeCounts rest
 
+-- the type of a reference counts where that of what it refers to does
+pub record ReferencesCount (known : ClosedType → Bool) : Type 0 where
+  pub reads : (of : ClosedType) → known (types.reads of) ≡ known of
+  pub writes : (of : ClosedType) → known (types.writes of) ≡ known of
+
 -- ---- two views
 
 module _ {I J T C U D : Type 0} (known : ClosedType → Bool) (change : Change Bytes T C U D) (one : View I T C)
     (two : View J U D) where
   -- Two views agree on types: on those of notes and of what these become, and of a type that counts on the
-  -- fields, whose types count too, and on the cases that names of arms mean, and what these become.
+  -- fields, whose types count too, and on the cases that names of arms mean, and what these become. The type
+  -- of a reference counts where that behind it does.
   pub record AgreeOnTypes : Type 0 where
     pub notes : (n : T) → one.type_of n ≡ two.type_of (change.note n)
     pub mentions : (n : T) (name : Bytes) → one.type_of n ≡ two.type_of (change.mention n name)
@@ -130,6 +137,7 @@ module _ {I J T C U D : Type 0} (known : ClosedType → Bool) (change : Change B
     pub inside : (of : ClosedType) → known of ≡ true → (tag : ℕ) → FoundCount known (one.fields of tag)
     pub tags : (of : ClosedType) → known of ≡ true → (name : Bytes)
         → one.tag of name ≡ two.tag of (change.arm name)
+    pub references : ReferencesCount known
 
   -- they agree on a name that is mentioned, whatever variable it means or if it means none
   abbrev pub AgreeOnMention : T → Bytes → Type 0

@@ -4,12 +4,11 @@ use Rattle.au_syntax.specs.Plain.{Bytes}
 use Rattle.au_type_texts.specs.Types.{ClosedType}
 use Rattle.au_modules.specs.Programs.{ModuleParts}
 use Rattle.au_typing.specs.Trees.{NotedParts}
-use Rattle.au_graphs.specs.Reached.{Has}
 use Rattle.au_closed_trees.specs.ClosedNotes.{ClosedNote, ClosedStatements}
 use Rattle.au_closed_trees.specs.Notes.{said_in_block}
-use Rattle.au_closed_meanings.specs.Agreement.{FieldsCount, FoundCount}
+use Rattle.au_closed_meanings.specs.Agreement.{FieldsCount, FoundCount, ReferencesCount}
 use Rattle.au_closing.specs.Closes.{ClosedFunction, ClosesFunctions}
-use Rattle.au_closing.specs.Instances.{Instance, place_in, same_instance}
+use Rattle.au_closing.specs.Instances.{Instance}
 use Rattle.au_meaning.specs.Views.{Field}
 use Rattle.au_meaning.specs.Meanings.{mean}
 use Rattle.au_closed_meanings.specs.Surroundings.{Surroundings}
@@ -19,7 +18,7 @@ use Rattle.au_closed_meanings.specs.Generic.{fields_in, generic_functions, linea
 -- instances of a list number their names as the functions in their places do
 abbrev pub NumberAlike : List Instance → (Instance → ℕ) → (ℕ → ℕ) → Type 0
 NumberAlike all first numbers =
-    (one : Instance) → Has same_instance all one → first one ≡ numbers (place_in one all)
+    (place : ℕ) (one : Instance) → slice_get all place ≡ Some one → first one ≡ numbers place
 
 -- the types that are noted in a closed tree
 abbrev pub types_noted : ClosedStatements → List ClosedType
@@ -44,7 +43,7 @@ pub record SaysWhatIs (known : ClosedType → Bool) (program : List ModuleParts)
       → (round home).is_linear of ≡ linear_in program of
 
 -- The types of the parameters of closed functions count, those that are noted in their trees, and those of
--- the fields of a type that counts.
+-- the fields of a type that counts; and the type of a reference counts where that behind it does.
 pub record TypesCount (known : ClosedType → Bool) (program : List ModuleParts)
     (functions : List ClosedFunction)
     : Type 0 where
@@ -53,6 +52,7 @@ pub record TypesCount (known : ClosedType → Bool) (program : List ModuleParts)
   pub notes : (number : ℕ) (f : ClosedFunction) → slice_get functions number ≡ Some f → (of : ClosedType)
       → Contains (types_noted f.body) of → known of ≡ true
   pub inside : (of : ClosedType) → known of ≡ true → (tag : ℕ) → FoundCount known (fields_in program of tag)
+  pub references : ReferencesCount known
 
 -- From an entry a program with notes does exactly what the program does that it closes to, on each input and
 -- for each number of ticks. No premise says that it is typed: where no rule applies to the one, none applies

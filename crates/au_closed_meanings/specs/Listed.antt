@@ -6,7 +6,7 @@ use Rattle.au_names.specs.HeadsOf.{heads_of}
 use Rattle.au_closed_trees.specs.Types.{types_in_block}
 use Rattle.au_closed_meanings.specs.Kept.{TypesCount}
 use Rattle.au_type_texts.specs.Same.{same}
-use Rattle.au_type_texts.specs.Types.{ClosedType, named}
+use Rattle.au_type_texts.specs.Types.{ClosedType, named, reads, writes}
 use Rattle.au_closed_meanings.specs.Programs.{Row}
 use Rattle.au_modules.specs.Programs.{ModuleParts}
 use Rattle.au_graphs.specs.Reached.{Has, has}
@@ -20,9 +20,12 @@ row_for program of = record { of = of; linear = linear_in program of; cases = ca
 abbrev pub rows_for : List ModuleParts → List ClosedType → List Row
 rows_for program all = map (row_for program) all
 
--- a type counts where it stands in a list, or isn't a declared one
+-- a type counts where it stands in a list, or isn't a declared one, and that of a reference where that behind
+-- it does
 abbrev pub counts_by : List ClosedType → ClosedType → Bool
 counts_by all (named at args) = has same all (named at args)
+counts_by all (reads of) = counts_by all of
+counts_by all (writes of) = counts_by all of
 counts_by all of = true
 
 -- rows that are made so say what the program itself says

@@ -1,39 +1,38 @@
 -- The numbers of names: the names of a program are numbered by their declarations, in the order of the text.
-use Rattle.std.specs.Prelude.{◌≡◌, ℕ, zero, suc, ◌+◌, ◌<◌, ◌≤◌, List, [], ◌∷◌, length, map, take}
+use Rattle.std.specs.Prelude.{◌≡◌, ℕ, zero, suc, ◌+◌, ◌<◌, ◌≤◌, List, [], ◌∷◌, ◌++◌, length, map, take}
 use Rattle.std.specs.Prelude.{Option, None, Some, slice_get, if◌then◌else◌}
 use Rattle.std.specs.List.{flat_map}
-use Rattle.au_syntax.specs.Modules.{Header, function_body, instance_body}
+use Rattle.au_syntax.specs.Modules.{function_body, instance_body}
 use Rattle.au_syntax.specs.Plain.{Bytes}
 use Rattle.au_modules.specs.Programs.{ModuleParts}
 use Rattle.au_names.specs.declared.targets.Target.{Target}
 use Rattle.au_names.specs.Standing.{Standing, standing_at}
-use Rattle.au_typing.specs.Trees.{NotedDeclaration, NotedMethod, NotedParts, NotedStatements}
+use Rattle.au_typing.specs.Trees.{NotedDeclaration, NotedMethod, NotedParts}
 use Rattle.au_closing.specs.Bodies.{BodyOf, body_at, body_of, body_of_parts, defining_index, is_method}
+use Rattle.au_closing.specs.Bodies.{method_body}
 use Rattle.au_closing.specs.Instances.{Instance}
 use Rattle.au_meaning.specs.Names.{names_in_block}
 
 -- ---- the bodies of a program
 
--- the body of a function or of a method, as it is written: what stands before its block, and its block
-pub record WrittenBody : Type 0 where
-  pub header : Header Bytes
-  pub block : NotedStatements
+-- the bodies of a declaration and of a module that stands at a place, in the order of the text
+abbrev pub bodies_in : ℕ → NotedDeclaration → List BodyOf
+bodies_in place (function_body at generics h block stop) =
+    record { place = place; generics = generics; header = h; block = block } ∷ []
+bodies_in place (instance_body at generics class t methods) = map (method_body place generics) methods
+bodies_in place other = []
 
--- a method of an instance
-abbrev pub method_written : NotedMethod → WrittenBody
-method_written m = record { header = m.header; block = m.body }
+abbrev pub bodies_of : ℕ → Option NotedParts → List BodyOf
+bodies_of place m = flat_map (bodies_in place) (body_of_parts m)
 
--- the bodies of a declaration, of a module, and of modules, in the order of the text
-abbrev pub bodies_in : NotedDeclaration → List WrittenBody
-bodies_in (function_body at generics h block stop) = record { header = h; block = block } ∷ []
-bodies_in (instance_body at generics class t methods) = map method_written methods
-bodies_in other = []
+-- of modules, the first of which stands at a place
+abbrev pub bodies_from : ℕ → List NotedParts → List BodyOf
+bodies_from place [] = []
+bodies_from place (m ∷ rest) = bodies_of place (Some m) ++ bodies_from (place + 1) rest
 
-abbrev pub bodies_of : NotedParts → List WrittenBody
-bodies_of m = flat_map bodies_in (body_of_parts (Some m))
-
-abbrev pub bodies_written : List NotedParts → List WrittenBody
-bodies_written noted = flat_map bodies_of noted
+-- of a program
+abbrev pub bodies_written : List NotedParts → List BodyOf
+bodies_written noted = bodies_from 0 noted
 
 -- ---- where a body stands among them
 
@@ -52,8 +51,8 @@ module _ (program : List ModuleParts) (noted : List NotedParts) where
   abbrev pub place_behind : ℕ → Bytes → Option ℕ → ℕ
   place_behind place name None = 0
   place_behind place name (Some index) =
-      length (flat_map bodies_of (take place noted))
-      + (length (flat_map bodies_in (take index (body_at noted place)))
+      length (bodies_from 0 (take place noted))
+      + (length (flat_map (bodies_in place) (take index (body_at noted place)))
       + place_inside name (slice_get (body_at noted place) index))
 
   -- the same of what has a name in what defines a declaration, if it is found
@@ -68,16 +67,16 @@ module _ (program : List ModuleParts) (noted : List NotedParts) where
 -- ---- names
 
 -- how many names a body has: its parameters, and what is declared in its block
-abbrev pub names_of : WrittenBody → ℕ
+abbrev pub names_of : BodyOf → ℕ
 names_of b = length b.header.parameters + names_in_block b.block
 
 -- how many bodies have
-abbrev pub names_of_all : List WrittenBody → ℕ
+abbrev pub names_of_all : List BodyOf → ℕ
 names_of_all [] = 0
 names_of_all (b ∷ rest) = names_of b + names_of_all rest
 
 -- how many the bodies before one have
-abbrev pub names_before : List WrittenBody → ℕ → ℕ
+abbrev pub names_before : List BodyOf → ℕ → ℕ
 names_before bodies place = names_of_all (take place bodies)
 
 module _ (program : List ModuleParts) (noted : List NotedParts) where
@@ -94,6 +93,21 @@ module _ (program : List ModuleParts) (noted : List NotedParts) where
   abbrev pub numbers_of : List Instance → ℕ → ℕ
   numbers_of all number = first_of (slice_get all number)
 
+-- ---- numbers that are apart
+
+-- a number is that of a name of a body whose first name has a number
+abbrev pub IsNameOf : BodyOf → ℕ → ℕ → Type 0
+IsNameOf body first n = (first ≤ n) × (n < first + names_of body)
+
+-- No number is that of two declarations of the text: instances that share the number of a name are of one
+-- body, and its first name has one number in both.
+abbrev pub NumbersApart : List ModuleParts → List NotedParts → (Instance → ℕ) → Type 0
+NumbersApart program noted first =
+    (one other : Instance) (n : ℕ) (body another : BodyOf)
+    → body_of program noted one.of ≡ Some body → body_of program noted other.of ≡ Some another
+    → IsNameOf body (first one) n → IsNameOf another (first other) n
+    → (body ≡ another) × (first one ≡ first other)
+
 -- ---- laws
 
 -- At its place stands the body that a function or a method has.
@@ -101,12 +115,16 @@ abbrev pub BodiesStand : Type 0
 BodiesStand =
     (program : List ModuleParts) (noted : List NotedParts) (target : Target) (body : BodyOf)
     → body_of program noted target ≡ Some body
-    → slice_get (bodies_written noted) (body_place program noted target)
-    ≡ Some (record { header = body.header; block = body.block })
+    → slice_get (bodies_written noted) (body_place program noted target) ≡ Some body
 
 -- The numbers of the names of a body are below those of each body that stands behind it: so no number is that of
 -- two declarations.
 abbrev pub NumbersAreApart : Type 0
 NumbersAreApart =
-    (bodies : List WrittenBody) (place other : ℕ) (b : WrittenBody) → place < other
+    (bodies : List BodyOf) (place other : ℕ) (b : BodyOf) → place < other
     → slice_get bodies place ≡ Some b → names_before bodies place + names_of b ≤ names_before bodies other
+
+-- the numbers of first names are apart
+abbrev pub FirstNamesAreApart : Type 0
+FirstNamesAreApart =
+    (program : List ModuleParts) (noted : List NotedParts) → NumbersApart program noted (first_name program noted)

@@ -3,7 +3,7 @@
 ghost use Rattle.au_closed_meanings.specs.InRow.{KeepsMeaningInRow};
 ghost use Rattle.au_closed_meanings.specs.Listed.{ListedCount, RowsMadeSay};
 ghost use Rattle.au_closed_meanings.specs.Kept.{KeepsMeaning, ProgramsSay};
-ghost use Rattle.au_closed_meanings.specs.Numbers.{BodiesStand, NumbersAreApart};
+ghost use Rattle.au_closed_meanings.specs.Numbers.{BodiesStand, FirstNamesAreApart, NumbersAreApart};
 
 /// From its entry a program with notes does exactly what the closed program does that it closes to, where
 /// what is known round closed trees is what the program itself says of all types that count.
@@ -31,8 +31,9 @@ pub fn listed_types_count()
 {}
 
 /// The names of a program are numbered body after body in the order of the text: each body stands at its place
-/// among them, and no number is that of two declarations.
+/// among them, and no number is that of two declarations. Instances of one body number its names alike.
 pub fn numbers_are_of_declarations()
     ensures stand { BodiesStand }
     ensures apart { NumbersAreApart }
+    ensures first { FirstNamesAreApart }
 {}

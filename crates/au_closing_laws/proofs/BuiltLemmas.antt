@@ -117,7 +117,7 @@ module _ (unbuilt_type unbuilt_call : Bytes → Bool) where
         (built_named es (nothing_right (place_if unbuilt_call f)
         (in_arguments unbuilt_type unbuilt_call (erase_arguments es)) e))
     built (parenthesized n a) e = built a e
-    built (dereference n a) e = absurd cc
+    built (dereference n a) e = built a e
     built (borrow n m x) e = none
     built (borrow_part n x fields) e = none
     built (binary n op a b) e =
@@ -171,7 +171,7 @@ module _ (unbuilt_type unbuilt_call : Bytes → Bool) where
         built a (nothing_right (flat_map (in_bound unbuilt_type) binds)
         (in_expression unbuilt_type unbuilt_call (erase a)) e)
     built_in (assign at n fields a) e = built a e
-    built_in (assign_through at n fields a) e = absurd cc
+    built_in (assign_through at n fields a) e = built a e
     built_in (conditional at tests) e = built_tests tests e
     built_in (conditional_else at tests b) e =
         let first = in_branches unbuilt_type unbuilt_call (erase_branches tests) in
@@ -197,8 +197,9 @@ module _ (unbuilt_type unbuilt_call : Bytes → Bool) where
         (both (calls_in one_call a) (calls_in one_call z) (built a (nothing_left first second here))
         (built z (nothing_right first second here)))
         (built_block b (nothing_right (first ++ second) third e))
-    built_in (borrow_in at access x r region b stop) e = absurd cc
-    built_in (borrow_typed at r t mode x b stop) e = absurd cc
+    built_in (borrow_in at access x r region b stop) e = built_block b e
+    built_in (borrow_typed at r t mode x b stop) e =
+        built_block b (nothing_right (in_type unbuilt_type t) (in_block unbuilt_type unbuilt_call (erase_block b)) e)
     built_in (discard at a) e = built a e
     built_in (return_of at a) e = built a e
 

@@ -30,6 +30,5 @@ mod OnceLemmas
 mod OwnTypeLemmas
 mod AcceptedLemmas
 mod LeadLemmas
-mod CallableLemmas
 mod BuiltLemmas
 mod PlainCallLemmas

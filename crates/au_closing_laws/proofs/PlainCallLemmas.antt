@@ -1,9 +1,9 @@
 -- In an accepted program that holds nothing that isn't built, each shipped call that a call leads to is plain.
-use Rattle.std.proofs.Common.{◌≡◌, ◌⊎◌, inl, inr, ℕ, ◌+◌, ◌<◌, Bool, true, false, true≢false, not, ◌&&◌}
+use Rattle.std.proofs.Common.{◌≡◌, ◌⊎◌, inl, inr, ℕ, ◌+◌, ◌<◌, Bool, true, false, true≢false}
 use Rattle.std.proofs.Common.{◌||◌, List, [], ◌∷◌, ◌++◌, length, map, Option, None, Some, refl, sym, ap, ◌∙◌}
 use Rattle.std.proofs.Common.{subst, arith}
 use Rattle.std.specs.Prelude.{Contains, if◌then◌else◌, slice_get, unwrap_or}
-use Rattle.std.specs.List.{list_all, list_any}
+use Rattle.std.specs.List.{list_all}
 use Rattle.std.specs.Option.{option_map}
 use Rattle.std.specs.Str.{bytes_eq}
 use Rattle.std.proofs.lemmas.Bool.{and_parts, lt-leb}
@@ -34,10 +34,9 @@ use Rattle.au_modules.specs.Programs.{shipped_module}
 use Rattle.au_names.specs.declared.targets.Target.{Target}
 use Rattle.au_names.specs.HeadsOf.{heads_of}
 use Rattle.au_names.specs.Owned.{declarations_in}
-use Rattle.au_names.specs.Standing.{Standing, standing_at}
+use Rattle.au_names.specs.Standing.{standing_at}
 use Rattle.au_names.proofs.AmongLemmas.{Among, contains}
-use Rattle.au_unbuilt.specs.Names.{built_calls, has_shipped, is_built, is_shipped_at, is_shipped_file}
-use Rattle.au_unbuilt.specs.Names.{is_unbuilt_target}
+use Rattle.au_unbuilt.specs.Names.{is_unbuilt, is_unbuilt_at, is_unbuilt_module, is_unbuilt_target}
 use Rattle.au_unbuilt.specs.Unbuilt.{unbuilt_of, unbuilt_places}
 use Rattle.au_unbuilt.proofs.OrderLemmas.{none_is_none}
 use Rattle.au_instances.specs.ClosedInstances.{ClosedInstance, by_row, closed_row}
@@ -59,65 +58,86 @@ use Rattle.au_type_texts.specs.Given.{Given, closed_under, given_by}
 use Rattle.au_closing.specs.Bodies.{BodyOf, body_of}
 use Rattle.au_closing.specs.Instances.{Instance}
 use Rattle.au_closing.specs.Leading.{Called, a_function, a_maker, a_method, at_truth, at_type, call_leads}
-use Rattle.au_closing.specs.Leading.{called_leads, called_of, called_standing, kind_of, method_by_row}
+use Rattle.au_closing.specs.Leading.{called_leads, called_standing, kind_of, method_by_row}
 use Rattle.au_closing.specs.Leading.{method_leads, module_name, shipped_or, target_leads}
 use Rattle.au_closing_laws.specs.Gathered.{IsGathered, entry_of}
 use Rattle.au_closing_laws.specs.Targets.{Call, calls_listed}
 use Rattle.au_closing_laws.proofs.AcceptedLemmas.{accepted_whole}
 use Rattle.au_closing_laws.proofs.BuiltLemmas.{calls_built}
-use Rattle.au_closing_laws.proofs.CallableLemmas.{IsNamed, called_named, name_in, seen_named}
 use Rattle.au_closing_laws.proofs.FactLemmas.{name_there}
-use Rattle.au_closing_laws.proofs.GatheredLemmas.{all_among, among_map, module_is, ships}
+use Rattle.au_closing_laws.proofs.GatheredLemmas.{among_map, module_is, ships}
 use Rattle.au_closing_laws.proofs.ShippedMethodLemmas.{class_is_here}
 use Rattle.au_closing_laws.proofs.TableLemmas.{good_table, read_of}
 use Rattle.au_closing_laws.proofs.TextLemmas.{IsDefined, IsPromised, Says, row_read, text_stands}
 use Rattle.au_formed.proofs.GraphLemmas.{among_at}
 
--- ---- the shipped calls of names that are built
+-- ---- the shipped calls of modules that are built
 
 -- a shipped call is plain, if it is there
 abbrev plain_if : Option ShippedCall → Bool
 plain_if None = true
 plain_if (Some call) = is_plain call
 
--- each call of this name is plain
-abbrev plain_in : List (Bytes × List (Bytes × ShippedCall)) → Bytes → Bool
-plain_in modules name = list_all (λ (row : Bytes × List (Bytes × ShippedCall)). plain_if (found row.1 name)) modules
+-- each call of a table is plain
+abbrev are_plain : List (Bytes × ShippedCall) → Bool
+are_plain table = list_all (λ (one : Bytes × ShippedCall). is_plain one.1) table
 
-built_are_plain : (of : Option IntKind) → list_all (plain_in (calls of)) built_calls ≡ true
-built_are_plain None = refl
-built_are_plain (Some kind) = refl
+-- so is each call of a module, or the module is one of those that aren't built
+abbrev is_row_plain : Bytes × List (Bytes × ShippedCall) → Bool
+is_row_plain row = is_unbuilt row.0 || are_plain row.1
 
-module_plain : (modules : List (Bytes × List (Bytes × ShippedCall))) (home name : Bytes) →
-    plain_in modules name ≡ true → plain_if (call_in (found modules home) name) ≡ true
-module_plain [] home name h = refl
-module_plain (row ∷ modules) home name h =
-    by (bytes_eq row.0 home) (module_plain modules home name
-    (and_parts (plain_if (found row.1 name)) (plain_in modules name) h).1)
+calls_plain : (of : Option IntKind) → list_all is_row_plain (calls of) ≡ true
+unfolding is_unbuilt
+calls_plain None = refl
+calls_plain (Some kind) = refl
+
+found_plain : (table : List (Bytes × ShippedCall)) (name : Bytes) → are_plain table ≡ true
+    → plain_if (found table name) ≡ true
+found_plain [] name h = refl
+found_plain (one ∷ table) name h =
+    by (bytes_eq one.0 name) (found_plain table name (and_parts (is_plain one.1) (are_plain table) h).1)
   where
-    by : (b : Bool) → plain_if (call_in (found modules home) name) ≡ true →
-        plain_if (call_in (if b then Some row.1 else found modules home) name) ≡ true
-    by true rest = (and_parts (plain_if (found row.1 name)) (plain_in modules name) h).0
+    by : (b : Bool) → plain_if (found table name) ≡ true
+        → plain_if (if b then Some one.1 else found table name) ≡ true
+    by true rest = (and_parts (is_plain one.1) (are_plain table) h).0
     by false rest = rest
 
-any_among : (name : Bytes) (names : List Bytes) → list_any (bytes_eq name) names ≡ true → Among name names
-any_among name [] h = cc
-any_among name (other ∷ names) h = by (bytes_eq name other) refl h (any_among name names)
+module_plain : (modules : List (Bytes × List (Bytes × ShippedCall))) (home name : Bytes) →
+    is_unbuilt home ≡ false → list_all is_row_plain modules ≡ true
+    → plain_if (call_in (found modules home) name) ≡ true
+module_plain [] home name built h = refl
+module_plain (row ∷ modules) home name built h =
+    let both = and_parts (is_row_plain row) (list_all is_row_plain modules) h in
+    by (bytes_eq row.0 home) refl both.0 (module_plain modules home name built both.1)
   where
-    by : (b : Bool) → bytes_eq name other ≡ b → (b || list_any (bytes_eq name) names) ≡ true →
-        (list_any (bytes_eq name) names ≡ true → Among name names) → Among name (other ∷ names)
-    by true is h later = inl (sym ((bytes_eq-Decides name other).0 is))
-    by false is h later = inr (later h)
+    by : (b : Bool) → bytes_eq row.0 home ≡ b → is_row_plain row ≡ true
+        → plain_if (call_in (found modules home) name) ≡ true
+        → plain_if (call_in (if b then Some row.1 else found modules home) name) ≡ true
+    by true is here rest =
+        let isnt : is_unbuilt row.0 ≡ false = ap is_unbuilt ((bytes_eq-Decides row.0 home).0 is) ∙ built in
+        found_plain row.1 name (sym (ap (λ b. b || are_plain row.1) isnt) ∙ here)
+    by false is here rest = rest
 
--- the shipped call of a name that is built is plain
-built_plain : (home name : Bytes) (of : Option IntKind) (call : ShippedCall) → is_built name ≡ true →
+-- the shipped call of a module that is built is plain
+built_plain : (home name : Bytes) (of : Option IntKind) (call : ShippedCall) → is_unbuilt home ≡ false →
     prim_of home name of ≡ Some call → is_plain call ≡ true
-unfolding is_built
 built_plain home name of call built is =
-    sym (ap plain_if is)
-    ∙ module_plain (calls of) home name
-    (all_among (plain_in (calls of)) name built_calls (built_are_plain of)
-    (any_among name built_calls built))
+    sym (ap plain_if is) ∙ module_plain (calls of) home name built (calls_plain of)
+
+-- no module that isn't built has an empty name
+nameless_built : is_unbuilt [] ≡ false
+unfolding is_unbuilt
+nameless_built = refl
+
+-- the name of a place whose module isn't one of those that aren't built
+home_built : (program : List ModuleParts) (place : ℕ) → is_unbuilt_at program place ≡ false →
+    is_unbuilt (module_name program place) ≡ false
+home_built program place e = by (slice_get program place) e
+  where
+    by : (o : Option ModuleParts) → is_unbuilt_module o ≡ false →
+        is_unbuilt (unwrap_or (option_map (λ (m : ModuleParts). m.name) o) []) ≡ false
+    by None e = nameless_built
+    by (Some m) e = e
 
 truth_plain : (call : ShippedCall) → is_plain call ≡ true → is_plain (at_truth call) ≡ true
 truth_plain prim.PrintText e = refl
@@ -203,23 +223,6 @@ module _ (program : List ModuleParts) (is : IsGathered program)
           let its = home_known m.name name of call known in
           absurd (other_name its.0 x its.1 b (sym its.2 ∙ ap (λ (y : ModuleParts). y.name) same))
 
-  -- and so it is shipped
-  place_ships : (place : ℕ) (name : Bytes) (of : Option IntKind) (call : ShippedCall) →
-      prim_of (module_name program place) name of ≡ Some call → is_shipped_at program place ≡ true
-  unfolding is_shipped_at
-  place_ships place name of call known = by (slice_get program place) refl
-    where
-      by : (o : Option ModuleParts) → slice_get program place ≡ o → has_shipped (slice_get program place) ≡ true
-      by None there =
-          let nothing : prim_of [] name of ≡ Some call =
-          sym (ap (λ (o : Option ModuleParts). prim_of
-          (unwrap_or (option_map (λ (m : ModuleParts). m.name) o) []) name of) there) ∙ known in
-          absurd (none-some call nothing)
-      by (Some m) there =
-          let its = is_ships m place there name of call
-          (ap (λ home. prim_of home name of) (sym (name_there program place m there)) ∙ known) in
-          ap has_shipped there ∙ ap (λ (y : ModuleParts). is_shipped_file y.interface) its.2 ∙ ships its.0 its.1
-
   -- ---- classes
 
   -- the class of a row whose module has a shipped call is of that module
@@ -256,82 +259,60 @@ module _ (program : List ModuleParts) (is : IsGathered program)
   -- ---- what a call leads to
 
   module _ (table : IsTable (rows_of program)) where
-    -- a name that isn't one of what isn't built, where its module is shipped
-    name_built : (target : Target) → is_unbuilt_target program (Some target) ≡ false →
-        is_shipped_at program target.at.«module» ≡ true → is_built target.name ≡ true
-    name_built target e here = by (is_built target.name) (sym (ap (λ b. b && not (is_built target.name)) here) ∙ e)
-      where
-        by : (b : Bool) → (true && not b) ≡ false → b ≡ true
-        by true e = refl
-        by false e = cc
-
     module _ (given : Given) (note : Note) (target : Target)
         (built : is_unbuilt_target program (Some target) ≡ false) (call : ShippedCall) where
-      function_plain : (name : Bytes) → name ≡ target.name → (one : Instance) →
+      function_plain : (name : Bytes) (one : Instance) →
           shipped_or (prim_of (module_name program target.at.«module») name None) one ≡ shipped call →
           is_plain call ≡ true
-      function_plain name same one e =
-          let known = leads_shipped (prim_of (module_name program target.at.«module») name None) one call e in
-          let here = place_ships target.at.«module» name None call known in
-          built_plain (module_name program target.at.«module») name None call
-          (ap is_built same ∙ name_built target built here) known
+      function_plain name one e =
+          let home = module_name program target.at.«module» in
+          built_plain home name None call (home_built program target.at.«module» built)
+          (leads_shipped (prim_of home name None) one call e)
 
-      row_plain : (name : Bytes) → name ≡ target.name → (t : ClosedType) (row : Row) →
+      row_plain : (name : Bytes) (t : ClosedType) (row : Row) →
           closed_row (rows_of program) (heads_of program) t target.at ≡ Some row →
           method_by_row program name t row ≡ shipped call
           → is_plain call ≡ true
-      row_plain name same t row is_row e =
+      row_plain name t row is_row e =
           let home = module_name program row.instance.«module» in
           let its = map_some (at_type t) (prim_of home name (kind_of t)) call
           (leads_shipped (option_map (at_type t) (prim_of home name (kind_of t))) _ call e) in
           let of_class = row_here target.at t row
           (closed_row_gave (rows_of program) (heads_of program) table target.at t row is_row) name
           (kind_of t) its.0 its.1 in
-          let here = ap (is_shipped_at program) of_class ∙ place_ships row.instance.«module» name (kind_of t)
-          its.0 its.1 in
-          let plain = built_plain home name (kind_of t) its.0 (ap is_built same ∙ name_built target built here) its.1 in
+          let here = ap (λ place. is_unbuilt (module_name program place)) (sym of_class)
+          ∙ home_built program target.at.«module» built in
+          let plain = built_plain home name (kind_of t) its.0 here its.1 in
           subst (λ c. is_plain c ≡ true) its.2 (type_plain t its.0 plain)
 
-      method_plain : (name : Bytes) → name ≡ target.name → (t : ClosedType) (o : Option Row) →
+      method_plain : (name : Bytes) (t : ClosedType) (o : Option Row) →
           closed_row (rows_of program) (heads_of program) t target.at ≡ o
           → method_leads program (rows_of program) name t o ≡ shipped call → is_plain call ≡ true
-      method_plain name same t None is_row e = absurd cc
-      method_plain name same t (Some row) is_row e = row_plain name same t row is_row e
+      method_plain name t None is_row e = absurd cc
+      method_plain name t (Some row) is_row e = row_plain name t row is_row e
 
-      called_plain : (o : Option Called) → ((c : Called) → o ≡ Some c → name_in c target.name ≡ target.name) →
+      called_plain : (o : Option Called) →
           called_leads program (rows_of program) given note target o ≡ shipped call → is_plain call ≡ true
-      called_plain None has_name e = absurd cc
-      called_plain (Some (a_function name names)) has_name e =
-          function_plain name (has_name (a_function name names) refl)
-          (record { of = target; given = given_by given (unwrap_or note.call []) names }) e
-      called_plain (Some (a_method name param)) has_name e =
+      called_plain None e = absurd cc
+      called_plain (Some (a_function name names)) e =
+          function_plain name (record { of = target; given = given_by given (unwrap_or note.call []) names }) e
+      called_plain (Some (a_method name param)) e =
           let t = closed_under given (substituted (unwrap_or note.call []) (parameter param)) in
-          method_plain name (has_name (a_method name param) refl) t
-          (closed_row (rows_of program) (heads_of program) t target.at) refl e
-      called_plain (Some (a_maker place)) has_name e = absurd cc
-
-      standing_plain : IsNamed program target → (o : Option Standing) → standing_at program target.at ≡ o →
-          called_leads program (rows_of program) given note target (called_standing target.name o)
-          ≡ shipped call
-          → is_plain call ≡ true
-      standing_plain has_name None there e = absurd cc
-      standing_plain has_name (Some d) there e = called_plain (called_of target.name d.says)
-          (λ c is_called. called_named target.name d.says c is_called (has_name d there)) e
+          method_plain name t (closed_row (rows_of program) (heads_of program) t target.at) refl e
+      called_plain (Some (a_maker place)) e = absurd cc
 
     -- what a call of a name leads to that means nothing that isn't built is plain, if it is shipped
     pub leads_plain : (place : ℕ) (given : Given) (note : Note) (name : Bytes) →
         is_unbuilt_target program (tables.find name (seen_at Callables program place Body)) ≡ false
         → (call : ShippedCall) → call_leads program place given note name ≡ shipped call → is_plain call ≡ true
     leads_plain place given note name built call e =
-        by (tables.find name (seen_at Callables program place Body)) refl built e
+        by (tables.find name (seen_at Callables program place Body)) built e
       where
-        by : (o : Option Target) → tables.find name (seen_at Callables program place Body) ≡ o →
-            is_unbuilt_target program o ≡ false → target_leads program (rows_of program) given note o
-            ≡ shipped call → is_plain call ≡ true
-        by None means built e = absurd cc
-        by (Some target) means built e =
-            standing_plain given note target built call (seen_named program place Body name target means)
-            (standing_at program target.at) refl e
+        by : (o : Option Target) → is_unbuilt_target program o ≡ false
+            → target_leads program (rows_of program) given note o ≡ shipped call → is_plain call ≡ true
+        by None built e = absurd cc
+        by (Some target) built e =
+            called_plain given note target built call (called_standing target.name (standing_at program target.at)) e
 
 -- ---- accepted programs
 

@@ -152,8 +152,8 @@ pub fn calls_of_accepted_programs_lead_somewhere()
 {}
 
 /// Where an accepted program has no place that holds what isn't built yet, each shipped call that a call in
-/// a body leads to has to do with no reference, box, buffer or terminal, whatever is given for the type
-/// parameters of the body.
+/// a body leads to has to do with no box, buffer or terminal, whatever is given for the type parameters of the
+/// body.
 pub fn calls_of_built_programs_are_plain()
     ensures { (files : Files) (names all : List (List ℕ)) (reads : List ReadFile)
         → AreAcceptedAs files names all reads

@@ -9,7 +9,8 @@ use Rattle.au_effects.specs.Values.{Value, Place, unit, number, reference, box, 
 use Rattle.au_effects.specs.Values.{content_of, optional}
 use Rattle.au_effects.specs.Parts.{along}
 use Rattle.au_effects.specs.Worlds.{World, Held, nothing, content, elements, used, tells, bears, ends, spends}
-use Rattle.au_effects.specs.Places.{at, exchanged, content_in}
+use Rattle.au_effects.specs.Places.{at, content_in}
+use Rattle.au_effects.specs.References.{reference_in, put_behind}
 use Rattle.au_effects.specs.Numbers.{number_in, number_of, truth_in, text_in, number_bytes, truth_bytes}
 use Rattle.au_effects.specs.Answers.{called, not_empty, empty, out_of_range, Answer, gives, writes, waits}
 use Rattle.au_effects.specs.Answers.{aborts, none}
@@ -44,11 +45,7 @@ arity prim.ReadByte = 1
 arity prim.WriteByte = 2
 arity prim.ReleaseTerminal = 1
 
--- the reference, the root, the box, the buffer and the terminal that a value is
-abbrev pub reference_in : {T : Type 0} → Value T → Option (ℕ × Place)
-reference_in (reference borrow place) = Some (borrow, place)
-reference_in other = None
-
+-- the root, the box, the buffer and the terminal that a value is
 abbrev pub root_in : {T : Type 0} → Value T → Option ℕ
 root_in (root id) = Some id
 root_in other = None
@@ -190,8 +187,7 @@ release_terminal world a = given (terminal_in a) (λ id. gives unit (spends (Som
 -- `swap`
 abbrev pub swap_call : {T B : Type 0} → World T B → Value T → Value T → Answer T B
 swap_call world a new =
-    given (reference_in a) (λ one. given (exchanged one.1 new world)
-    (λ pair. gives pair.0 (tells (used one.0) pair.1)))
+    given (reference_in a) (λ one. given (put_behind one new world) (λ pair. gives pair.0 pair.1))
 
 -- `makeBox`, `unbox`, `boxGet` and `boxGetMut`
 abbrev pub make_box : {T B : Type 0} → Option B → World T B → Value T → Answer T B

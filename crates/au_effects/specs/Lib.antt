@@ -3,6 +3,8 @@ pub mod Parts
 pub mod Numbers
 pub mod Worlds
 pub mod Places
+pub mod References
+pub mod Cases
 pub mod Answers
 pub mod Calls
 pub mod Laws

@@ -52,5 +52,6 @@ set_over place new world (Some base) =
     along (part place.path base) (λ old. Some
     (old, base_set place.base (with_part place.path new base) world))
 
+-- Nothing else is written where a value stands, but for the elements of buffers.
 abbrev pub exchanged : {T B : Type 0} → Place → Value T → World T B → Option (Value T × World T B)
 exchanged place new world = set_over place new world (base_at place.base world)

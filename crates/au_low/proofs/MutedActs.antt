@@ -1,19 +1,21 @@
 -- Instructions of a machine whose events aren't kept.
-use Rattle.std.proofs.Common.{◌≡◌, ℕ, ◌+◌, ◌-◌, ◌==◌, nat_lt, Bool, true, false, not, if◌then◌else◌, List, []}
+use Rattle.std.proofs.Common.{◌≡◌, ℕ, ◌+◌, ◌==◌, nat_lt, Bool, true, false, not, if◌then◌else◌, List, []}
 use Rattle.std.proofs.Common.{◌∷◌, length, reverse, take, drop, Option, Some, None, slice_get, ℤ, pos, ◌+ℤ◌}
-use Rattle.std.proofs.Common.{int_lt, refl, ap, ◌∙◌}
+use Rattle.std.proofs.Common.{int_lt, refl, ap, sym, ◌∙◌}
 use Rattle.std.specs.Option.{option_map}
 use Rattle.au_base.specs.declared.kinds.IntKind.{IntKind}
 use Rattle.au_ints.specs.Ranges.{is_of_kind}
 use Rattle.au_shipped.specs.declared.prims.ShippedCall.{ShippedCall}
-use Rattle.au_effects.specs.Values.{Place, number, made, listed}
+use Rattle.au_effects.specs.Values.{Place, number, made, reference, listed}
 use Rattle.au_effects.specs.Parts.{along, part}
-use Rattle.au_effects.specs.Worlds.{spends}
+use Rattle.au_effects.specs.Worlds.{used, tells, spends}
 use Rattle.au_effects.specs.Places.{at, exchanged}
+use Rattle.au_effects.specs.References.{reference_in, reference_along, oldest, newer}
+use Rattle.au_effects.specs.Cases.{case_behind}
 use Rattle.au_effects.specs.Numbers.{number_in, same_kind, truth_in, computed, wrapped_around, compared}
 use Rattle.au_effects.specs.Numbers.{negated, converted_value}
 use Rattle.au_effects.specs.Answers as answer
-use Rattle.au_effects.specs.Calls.{reference_in, arity, shipped}
+use Rattle.au_effects.specs.Calls.{arity, shipped}
 use Rattle.au_low.specs.declared.code.Code.{Code}
 use Rattle.au_low.specs.declared.code.Function.{Function}
 use Rattle.au_low.specs.declared.code.LowType.{LowType}
@@ -27,12 +29,14 @@ use Rattle.au_low.specs.declared.instructions.Instr.TheVariants.{ForTest, ForSte
 use Rattle.au_low.specs.declared.instructions.Instr.TheVariants.{Shipped, Return, Read, Put, Deref, Open}
 use Rattle.au_low.specs.declared.instructions.Instr.TheVariants.{Again, Part, Bind, Close}
 use Rattle.au_low.specs.Machines.{Low, LowWorld, Machine, Waiting, Next, goes, writes, waits, exits, aborts}
-use Rattle.au_low.specs.Machines.{stuck, having, where_true, onward, in_world, popping, popping_two}
+use Rattle.au_low.specs.Machines.{stuck, having, where_true, onward, in_world, pushes, popping, popping_two}
 use Rattle.au_low.specs.Machines.{popping_all, in_slot, has_slot, slot_set, slots_filled, ordered, ordered_if}
 use Rattle.au_low.specs.Machines.{begins, frame_in, frame_ended}
 use Rattle.au_low.specs.Instructions.{instructions, jumps, jumps_unless, comes, stores, puts, slot_part}
-use Rattle.au_low.specs.Instructions.{place_along, reference_at, uses, reads_at, both_numbers, slot_numbers}
-use Rattle.au_low.specs.Instructions.{makes, apart, calls, answered, text_bytes, is_type, new_reference}
+use Rattle.au_low.specs.Instructions.{reference_in_slot, pushes_behind, puts_behind, both_numbers}
+use Rattle.au_low.specs.Instructions.{slot_numbers}
+use Rattle.au_low.specs.Instructions.{makes, apart, tells_apart, calls, answered, text_bytes, is_type}
+use Rattle.au_low.specs.Instructions.{new_reference}
 use Rattle.au_low.specs.Instructions.{borrowed, borrowed_place, is_of_slot, closes_to, exit_in, returns}
 use Rattle.au_low.specs.Instructions.{on_pair, act}
 use Rattle.au_low.proofs.MutedWorlds.{hushed, pair_hushed, hushed_closes, hushed_at, hushed_exchanged}
@@ -130,9 +134,26 @@ muted_at place m f g h =
     ap (λ (found : Option Low). having (along found (part place.path)) f)
     (hushed_at place.base m.world) ∙ muted_having (at place m.world) f g h
 
-muted_reads : (borrow : ℕ) (place : Place) (m : Machine)
-    → reads_at borrow place (muted m) ≡ muted_next (reads_at borrow place m)
-muted_reads borrow place m = muted_at place m _ _ (λ value. refl)
+-- what is read behind a reference, by what stands there
+abbrev read_of : ℕ × Place → LowWorld → Option Low → Option (Low × LowWorld)
+read_of one world held = along held (λ value. Some (value, tells (used one.0) world))
+
+muted_copies : (one : ℕ × Place) (m : Machine) (held : Option Low)
+    → having (read_of one (muted m).world held) (λ pair. pushes pair.0 (in_world pair.1 (muted m)))
+    ≡ muted_next (having (read_of one m.world held) (λ pair. pushes pair.0 (in_world pair.1 m)))
+muted_copies one m None = refl
+muted_copies one m (Some value) = refl
+
+muted_reads : (one : ℕ × Place) (m : Machine)
+    → pushes_behind one (muted m) ≡ muted_next (pushes_behind one m)
+muted_reads one m =
+    ap (λ (found : Option Low). having (read_of one (muted m).world (along found (part one.1.path)))
+    (λ pair. pushes pair.0 (in_world pair.1 (muted m)))) (hushed_at one.1.base m.world)
+    ∙ muted_copies one m (at one.1 m.world)
+
+muted_behind : (one : ℕ × Place) (value : Low) (m : Machine)
+    → puts_behind one value (muted m) ≡ muted_next (puts_behind one value m)
+muted_behind one value m = muted_puts one.1 value (in_world (tells (used one.0) m.world) m)
 
 muted_both : (a b : Option (IntKind × ℤ)) (f g : IntKind → ℤ → ℤ → Next) → ((kind : IntKind) (x y : ℤ)
     → f kind x y ≡ muted_next (g kind x y)) → both_numbers a b f ≡ muted_next (both_numbers a b g)
@@ -171,6 +192,52 @@ muted_apart (made tag (Some id) fields) slot m f h =
     ap (λ (found : Option Machine). having found (f tag)) (muted_filled slot (listed fields) k)
     ∙ muted_machines (slots_filled slot (listed fields) k) (f tag) (h tag)
 muted_apart other slot m f h = refl
+
+-- what is told apart behind a reference, by what stands there
+abbrev told_of : ℕ × Place → LowWorld → Option Low → Option ((ℕ × List Low) × LowWorld)
+told_of one world held =
+    along (read_of one world held) (λ pair. along (case_behind one pair.0) (λ parts. Some (parts, pair.1)))
+
+muted_parts : (one : ℕ × Place) (slot : ℕ) (m : Machine) (f : ℕ → Machine → Next)
+    → ((tag : ℕ) (k : Machine) → f tag (muted k) ≡ muted_next (f tag k)) → (parts : Option (ℕ × List Low))
+    → having parts (λ parts.
+    having (slots_filled slot parts.1 (in_world (tells (used one.0) (muted m).world) (muted m))) (f parts.0))
+    ≡ muted_next (having parts (λ parts.
+    having (slots_filled slot parts.1 (in_world (tells (used one.0) m.world) m)) (f parts.0)))
+muted_parts one slot m f h None = refl
+muted_parts one slot m f h (Some parts) =
+    let k = in_world (tells (used one.0) m.world) m in
+    ap (λ (found : Option Machine). having found (f parts.0)) (muted_filled slot parts.1 k)
+    ∙ muted_machines (slots_filled slot parts.1 k) (f parts.0) (h parts.0)
+
+having_parts : {A B : Type 0} (parts : Option A) (w : B) (go : A × B → Next)
+    → having (along parts (λ parts. Some (parts, w))) go ≡ having parts (λ parts. go (parts, w))
+having_parts None w go = refl
+having_parts (Some parts) w go = refl
+
+muted_told : (one : ℕ × Place) (slot : ℕ) (m : Machine) (f : ℕ → Machine → Next)
+    → ((tag : ℕ) (k : Machine) → f tag (muted k) ≡ muted_next (f tag k)) → (held : Option Low)
+    → having (told_of one (muted m).world held) (λ told.
+    having (slots_filled slot told.0.1 (in_world told.1 (muted m))) (f told.0.0))
+    ≡ muted_next (having (told_of one m.world held) (λ told.
+    having (slots_filled slot told.0.1 (in_world told.1 m)) (f told.0.0)))
+muted_told one slot m f h None = refl
+muted_told one slot m f h (Some value) =
+    let parts = case_behind one value in
+    having_parts parts (tells (used one.0) (muted m).world) _
+    ∙ muted_parts one slot m f h parts
+    ∙ sym (ap muted_next (having_parts parts (tells (used one.0) m.world) _))
+
+muted_case : (value : Low) (slot : ℕ) (m : Machine) (f : ℕ → Machine → Next)
+    → ((tag : ℕ) (k : Machine) → f tag (muted k) ≡ muted_next (f tag k))
+    → tells_apart value slot (muted m) f ≡ muted_next (tells_apart value slot m f)
+muted_case (made tag birth fields) slot m f h = muted_apart (made tag birth fields) slot m f h
+muted_case (reference borrow place) slot m f h =
+    ap (λ (held : Option Low). having (told_of (borrow, place) (muted m).world (along held (part place.path)))
+    (λ told. having (slots_filled slot told.0.1 (in_world told.1 (muted m))) (f told.0.0)))
+    (hushed_at place.base m.world)
+    ∙ muted_told (borrow, place) slot m f h (at place m.world)
+muted_case other slot m f h = refl
 
 muted_begins : (index : ℕ) (function : Function) (values : List Low) (m : Machine)
     → begins index function values (muted m) ≡ muted_next (begins index function values m)
@@ -224,13 +291,13 @@ muted_borrow mode.Read slot m f g h = muted_having (if has_slot slot m then Some
     (slot_part slot [] m) else None) f g h
 muted_borrow mode.Write slot m f g h = muted_having (if has_slot slot m then Some
     (slot_part slot [] m) else None) f g h
-muted_borrow mode.Again slot m f g h = muted_having (along (reference_at slot m) (λ one. Some one.1)) f g h
+muted_borrow mode.Again slot m f g h = muted_having (along (reference_in_slot slot m)
+    (λ one. Some one.1)) f g h
 
 muted_closes : (count : ℕ) (m : Machine) → closes_to count (muted m) ≡ muted (closes_to count m)
 muted_closes count m =
-    let over = length m.open_borrows - count in
-    ap (λ (w : LowWorld). in_world w (record m { open_borrows = drop over m.open_borrows }))
-    (hushed_closes (take over m.open_borrows) m.world)
+    ap (λ (w : LowWorld). in_world w (record m { open_borrows = oldest count m.open_borrows }))
+    (hushed_closes (newer count m.open_borrows) m.world)
 
 -- what an instruction does
 pub muted_act : (code : Code) (instr : Instr) (m : Machine)
@@ -269,7 +336,7 @@ muted_act code (Make of tag order home) m =
 muted_act code (Take slot) m = muted_popping m.operands m _ (λ value k. muted_apart value slot k _
     (λ tag k. muted_where (tag == 0) _ _ refl))
 muted_act code (Case slot labels) m =
-    muted_popping m.operands m _ (λ value k. muted_apart value slot k _ (λ tag k. muted_having
+    muted_popping m.operands m _ (λ value k. muted_case value slot k _ (λ tag k. muted_having
     (slice_get labels tag) _ _ (λ label. muted_jumps code label k)))
 muted_act code (Call function order) m = muted_having (slice_get code.functions function) _ _
     (λ callee. muted_calls function order callee m)
@@ -277,17 +344,17 @@ muted_act code (Shipped call of order) m =
     muted_where (is_type code of) _ _ (muted_all (arity call) m _ (λ values k. muted_having
     (ordered_if order values) _ _ (λ values. muted_shipped code call of values k)))
 muted_act code Return m = muted_popping m.operands m _ (λ result k. muted_returns k.waiting result k)
-muted_act code (Read slot path) m = muted_having (reference_at slot m) _ _ (λ one. muted_reads one.0
-    (place_along one.1 path) m)
+muted_act code (Read slot path) m = muted_having (reference_in_slot slot m) _ _ (λ one. muted_reads
+    (reference_along one path) m)
 muted_act code (Put slot path) m =
-    muted_having (reference_at slot m) _ _ (λ one. muted_popping m.operands m _ (λ value k. muted_puts
-    (place_along one.1 path) value (uses one.0 k)))
+    muted_having (reference_in_slot slot m) _ _ (λ one. muted_popping m.operands m _ (λ value k. muted_behind
+    (reference_along one path) value k))
 muted_act code Deref m = muted_popping m.operands m _ (λ value k. muted_having (reference_in value) _ _
-    (λ one. muted_reads one.0 one.1 k))
+    (λ one. muted_reads one k))
 muted_act code (Open slot mode) m = muted_where (is_of_slot mode) _ _ (muted_borrow mode slot m _ _
     (λ place. refl))
 muted_act code (Again slot) m = muted_borrow mode.Again slot m _ _ (λ place. refl)
-muted_act code (Part slot path) m = muted_having (reference_at slot m) _ _ (λ one. refl)
+muted_act code (Part slot path) m = muted_having (reference_in_slot slot m) _ _ (λ one. refl)
 muted_act code (Bind from into mode) m = muted_borrow mode from m _ _ (λ place. muted_stores into
     (new_reference place m) (borrowed m))
 muted_act code (Close count) m = ap (λ (k : Machine). goes (onward k)) (muted_closes count m)

@@ -11,7 +11,8 @@ use Rattle.au_effects.specs.Worlds.{World, used, tells}
 use Rattle.au_effects.specs.Places.{at, content_in, exchanged}
 use Rattle.au_effects.specs.Numbers.{number_in, number_of, truth_in, text_in, number_bytes, truth_bytes}
 use Rattle.au_effects.specs.Answers.{Answer, gives, writes, waits, aborts, none}
-use Rattle.au_effects.specs.Calls.{reference_in, root_in, box_in, buffer_in, terminal_in, elements_in}
+use Rattle.au_effects.specs.References.{reference_in}
+use Rattle.au_effects.specs.Calls.{root_in, box_in, buffer_in, terminal_in, elements_in}
 use Rattle.au_effects.specs.Calls.{natural_in, index_in, untyped, given, of_none, of_one, of_two, of_three}
 use Rattle.au_effects.specs.Calls.{use_of, buffer_use, with_elements, last_taken, element_copied}
 use Rattle.au_effects.specs.Calls.{element_replaced, buffer_ended, swap_call, byte_read, shipped}
@@ -114,9 +115,9 @@ still_swap : {T B : Type 0} (world : World T B) (a new : Value T)
     → swap_call (hushed world) a new ≡ still (swap_call world a new)
 still_swap {T} {B} world a new =
     still_given (reference_in a) _ _ (λ one.
-    ap (λ (found : Option (Value T × World T B)). given found (λ pair. gives pair.0 (tells
-    (used one.0) pair.1))) (hushed_exchanged one.1 new world)
-    ∙ still_pairs (exchanged one.1 new world) _ (λ pair. refl))
+    ap (λ (found : Option (Value T × World T B)). given found (λ pair. gives pair.0 pair.1))
+    (hushed_exchanged one.1 new (tells (used one.0) world))
+    ∙ still_pairs (exchanged one.1 new (tells (used one.0) world)) _ (λ pair. refl))
 
 module _ {T B : Type 0} (bytes_of : T → List ℕ) where
   -- what a shipped call comes to

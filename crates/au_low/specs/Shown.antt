@@ -133,6 +133,13 @@ slot_place slot path = record { base = name_of 0 slot; path = path }
 abbrev pub bound : List Instr
 bound = put_byte 5 ∷ Store 0 ∷ Bind 0 1 mode.Write ∷ []
 
+-- a union of case 1 with a byte and a pair in slot 0, a borrow of it in slot 1, and a case of it behind the
+-- reference, whose fields go to slots from 1 on
+abbrev pub told : List Instr
+told =
+    put_byte 5 ∷ pair_of 6 7 ++ Make 1 1 (0 ∷ 1 ∷ []) (codes "M") ∷ Store 0 ∷ Bind 0 1 mode.Write ∷ Move 1
+    ∷ Case 1 (0 ∷ 2 ∷ []) ∷ []
+
 -- borrows and uses
 pub record BorrowsAreShown : Type 0 where
   pub open_pushes : stack_after 1 (program (Open 2 mode.Write ∷ []) [])
@@ -140,6 +147,8 @@ pub record BorrowsAreShown : Type 0 where
   pub open_tells : deeds_after 1 (program (Open 2 mode.Write ∷ []) []) ≡ Some (opened 0 ∷ [])
   pub again : stack_after 4 (program (bound ++ Again 1 ∷ []) []) ≡ Some (reference 1 (slot_place 0 []) ∷ [])
   pub part : stack_after 4 (program (bound ++ Part 1 (3 ∷ 4 ∷ []) ∷ []) [])
+      ≡ Some (reference 0 (slot_place 0 (3 ∷ 4 ∷ [])) ∷ [])
+  pub part_of_part : stack_after 6 (program (bound ++ Part 1 (3 ∷ []) ∷ Store 2 ∷ Part 2 (4 ∷ []) ∷ []) [])
       ≡ Some (reference 0 (slot_place 0 (3 ∷ 4 ∷ [])) ∷ [])
   pub bind_again : slots_after 4 (program (bound ++ Bind 1 2 mode.Again ∷ []) [])
       ≡ Some (Some (byte 5) ∷ Some (reference 0 (slot_place 0 [])) ∷ Some (reference 1 (slot_place 0 []))
@@ -149,6 +158,10 @@ pub record BorrowsAreShown : Type 0 where
   pub put : slots_after 5 (program (bound ++ put_byte 8 ∷ Put 1 [] ∷ []) [])
       ≡ Some (Some (byte 8) ∷ Some (reference 0 (slot_place 0 [])) ∷ None ∷ [])
   pub deref : stack_after 5 (program (bound ++ Move 1 ∷ Deref ∷ []) []) ≡ Some (byte 5 ∷ [])
+  pub case_behind : slots_after 9 (program told []) ≡ Some (Some (free_case 1 (byte 5 ∷ two 6 7 ∷ []))
+      ∷ Some (reference 0 (slot_place 0 (0 ∷ []))) ∷ Some (reference 0 (slot_place 0 (1 ∷ []))) ∷ [])
+  pub case_behind_goes : place_after 9 (program told []) ≡ Some 2
+  pub case_behind_tells : deeds_after 9 (program told []) ≡ Some (opened 0 ∷ used 0 ∷ [])
   pub close : deeds_after 3 (program (Open 0 mode.Read ∷ Open 0 mode.Read ∷ Close 1 ∷ []) [])
       ≡ Some (opened 0 ∷ opened 1 ∷ closed 1 ∷ [])
   pub close_more : deeds_after 2 (program (Open 0 mode.Read ∷ Close 2 ∷ []) []) ≡ Some (opened 0 ∷ [])

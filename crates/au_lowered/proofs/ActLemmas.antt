@@ -25,8 +25,9 @@ use Rattle.au_meaning.specs.Worlds.{Value}
 use Rattle.au_shipped.specs.declared.prims.ShippedCall.{ShippedCall}
 use Rattle.au_shipped.specs.declared.prims.ShippedCall.TheVariants as prim
 use Rattle.au_syntax.specs.Plain.{Bytes}
-use Rattle.au_lowered.specs.Scopes.{Entry, Agree}
-use Rattle.au_lowered.specs.Sides.{Coding, Word, Both, Names, Slots, Common, Frame, machine, spot, world}
+use Rattle.au_lowered.specs.Scopes.{Entry, Distinct}
+use Rattle.au_lowered.specs.Frames.{Wide, Agree, Frame, machine, spot, world}
+use Rattle.au_lowered.specs.Sides.{as_meant, as_ran, Coding, Both, Names, Slots, Common}
 use Rattle.au_lowered.specs.Sides.{meant, ran, all_meant, all_ran}
 use Rattle.au_lowered.specs.Runs.{at, aim_at, Sim}
 use Rattle.au_lowered.proofs.CallLemmas.{popped_all, make_runs}
@@ -41,14 +42,15 @@ use Rattle.au_lowered.proofs.OrderLemmas.{declared_or_not}
 use Rattle.au_lowered.proofs.ShippedLemmas.{PlainCall, shipped_runs, print_text_plain, print_int_plain}
 use Rattle.au_lowered.proofs.ShippedLemmas.{print_bool_plain, print_line_text_plain, print_line_int_plain}
 use Rattle.au_lowered.proofs.ShippedLemmas.{print_line_bool_plain, surrender_plain, abort_plain, span_plain}
+use Rattle.au_lowered.proofs.SwapLemmas.{swap_runs, swap_born_runs}
 
-module _ (by : Coding) (f : Frame) (get : ℕ → Option Draft) (placed : Placed by f.function get)
-    (depth wide room : ℕ) (scope : List (Entry by)) where
+module _ (by : Coding) (f : Frame by) (get : ℕ → Option Draft) (placed : Placed by f.function get)
+    (depth : ℕ) (wide : Wide) (room : ℕ) (scope : List (Entry by)) (distinct : Distinct by scope) where
   parts : PartsStandIn get
   parts = parts_stand get
 
   abbrev pub Held_so : Names → Slots → Type 0
-  Held_so names slots = Agree by wide room scope names slots
+  Held_so names slots = Agree by f wide room scope names slots
 
   -- an operation with two arguments
   wrap_runs : (op : WrapOp) (kind : IntKind) (order : List ℕ) (p q l : ℕ) (vs args ops : List (Both by))
@@ -66,7 +68,7 @@ module _ (by : Coding) (f : Frame) (get : ℕ → Option Draft) (placed : Placed
       let two : length vs ≡ 2 = omega (arith, many) in
       subst (λ r. Sim by f (value_aim by f get depth wide room scope q ops) 6 (spot by f p (reverse vs ++
       ops) slots c) (suc l) (comes r (world by f names c) l))
-      (sym (wrapped_to (λ (w : Word by). w.bytes) op kind a b))
+      (sym (wrapped_to (as_meant by) op kind a b))
       (sim_spare by f (comes _ (world by f names c) l) (omega arith)
       (comes_runs by f Held_so (instr.Wrap op kind order) p q l (wrapped_around op kind a b) ops (reverse vs
       ++ ops) names slots c (placed.has p (plain (instr.Wrap op kind order)) here.here) here.ends ag
@@ -74,7 +76,7 @@ module _ (by : Coding) (f : Frame) (get : ℕ → Option Draft) (placed : Placed
       (low.on_pair (wrapped_around op kind) values) m)) two
       ∙ ap (λ o. having o (λ values. low.comes (low.on_pair (wrapped_around op kind) values) (machine by f p
       ops slots c))) e
-      ∙ ap (λ r. low.comes r (machine by f p ops slots c)) (wrapped_to (λ (w : Word by). by.text w.bytes) op
+      ∙ ap (λ r. low.comes r (machine by f p ops slots c)) (wrapped_to (as_ran by) op
       kind a b))))
   wrap_runs op kind order p q l vs (a ∷ b ∷ d ∷ more) ops names slots c stands ag many e = sim_stuck by f
 
@@ -94,12 +96,12 @@ module _ (by : Coding) (f : Frame) (get : ℕ → Option Draft) (placed : Placed
       let is : ran by v ≡ ran by a = cc in
       subst (λ r. Sim by f (value_aim by f get depth wide room scope q ops) 6 (spot by f p (v ∷ ops) slots
       c) (suc l) (comes r (world by f names c) l))
-      (sym (converted_to (λ (w : Word by). w.bytes) kind a))
+      (sym (converted_to (as_meant by) kind a))
       (sim_spare by f (comes _ (world by f names c) l) (omega arith)
       (comes_runs by f Held_so (instr.Convert kind) p q l (converted_value kind a) ops (v ∷ ops) names slots
       c (placed.has p (plain (instr.Convert kind)) here.here) here.ends ag
       (ap (λ x. low.comes (converted_value kind x) (machine by f p ops slots c)) is
-      ∙ ap (λ r. low.comes r (machine by f p ops slots c)) (converted_to (λ (w : Word by). by.text w.bytes)
+      ∙ ap (λ r. low.comes r (machine by f p ops slots c)) (converted_to (as_ran by)
       kind a))))
   convert_runs kind p q l (v ∷ u ∷ more) (a ∷ []) ops names slots c stands ag same many = absurd (omega
       (arith, many))
@@ -219,8 +221,14 @@ module _ (by : Coding) (f : Frame) (get : ℕ → Option Draft) (placed : Placed
       (ran by) ∙ also) e) also
   ships_run (prim.Convert kind) born order p q l vs (a ∷ b ∷ more) ops names slots c good stands ag many
       also e = sim_stuck by f
-  ships_run prim.Swap born order p q l vs args ops names slots c good stands ag many also e = absurd
-      (true≢false (sym good))
+  ships_run prim.Swap None order p q l vs args ops names slots c good stands ag many also e =
+      let i = instr.Shipped prim.Swap None (code.unless_declared order) in
+      let here = parts.of_one (plain i) p q stands in
+      swap_runs by f get depth wide room scope distinct (code.unless_declared order) p q l vs args ops names slots c
+      (placed.has p (plain i) here.here) here.ends ag also (same_order order vs args many e)
+  ships_run prim.Swap (Some of) order p q l vs args ops names slots c good stands ag many also e =
+      swap_born_runs by f get depth wide room scope distinct of q l args ops (spot by f p (reverse vs ++ ops) slots c)
+      names c
   ships_run prim.MakeBox born order p q l vs args ops names slots c good stands ag many also e = absurd
       (true≢false (sym good))
   ships_run prim.Unbox born order p q l vs args ops names slots c good stands ag many also e = absurd
@@ -253,10 +261,10 @@ module _ (by : Coding) (f : Frame) (get : ℕ → Option Draft) (placed : Placed
       absurd (true≢false (sym good))
 
 module _ {T C : Type 0} (by : Coding) (see : View ℕ T C) (invoke : ℕ → List Value
-    → Action Value) (depth : ℕ) (f : Frame)
+    → Action Value) (depth : ℕ) (f : Frame by)
     (get : ℕ → Option Draft) (placed : Placed by f.function get) (view : GoodView by see) (good_calls :
     GoodCalls by invoke depth)
-    (wide room : ℕ) (scope : List (Entry by)) where
+    (wide : Wide) (room : ℕ) (scope : List (Entry by)) (distinct : Distinct by scope) where
   parts_of : PartsStandIn get
   parts_of = parts_stand get
 
@@ -264,7 +272,7 @@ module _ {T C : Type 0} (by : Coding) (see : View ℕ T C) (invoke : ℕ → Lis
   act_runs : (a : Act ℕ) (order : List ℕ) (p q l : ℕ) (vs args ops : List (Both by)) (names : Names) (slots
       : Slots) (c : Common by)
       → ((call : ShippedCall) (born : Option ClosedType) → a ≡ ships call born → is_plain call ≡ true)
-      → Stands get (code.acts a order) p q → Agree by wide room scope names slots → suc l ≤ depth
+      → Stands get (code.acts a order) p q → Agree by f wide room scope names slots → suc l ≤ depth
       → length vs ≡ length order → length vs ≡ length args → ordered order (all_ran by vs)
       ≡ Some (all_ran by args)
       → Sim by f (value_aim by f get depth wide room scope q ops) 6 (spot by f p (reverse vs ++ ops) slots
@@ -273,26 +281,25 @@ module _ {T C : Type 0} (by : Coding) (see : View ℕ T C) (invoke : ℕ → Lis
   act_runs (invokes i) order p q l vs args ops names slots c plain_ones stands ag le many also e =
       let here = parts_of.of_one (plain (instr.Call i order)) p q stands in
       sim_aim by f
-      (aim_at (meant by) (λ (v : Both by) (n : Names) (s : Slots). (n ≡ names) × (s
-      ≡ slots)) (λ (v : Both by) (s : Slots) (after : Common by). spot by f (p + 1) (v ∷ ops) s after))
+      (aim_at (meant by) (λ (v : Both by) (n : Names) (s : Slots). Agree by f wide room scope n s) (λ (v :
+      Both by) (s : Slots) (after : Common by). spot by f (p + 1) (v ∷ ops) s after))
       (value_aim by f get depth wide room scope q ops) (invoke i (all_meant by args) (world by f names c) l)
-      (good_calls f i order vs args ops p l names slots c (omega (arith, le)) (placed.has p (plain
-      (instr.Call i order)) here.here) many also e)
+      (good_calls f i order vs args ops p l wide room scope names slots c (omega (arith, le)) (placed.has p
+      (plain (instr.Call i order)) here.here) many also e distinct ag)
       (λ v. refl)
-      (λ v n s h. subst (λ x. Agree by wide room scope x s) (sym h.0) (subst (λ y. Agree by wide room scope
-      names y) (sym h.1) ag))
+      (λ v n s h. h)
       (λ v n s after k h lead. leads_to by.code (ap (λ j. at (spot by f j (v ∷ ops) s after)) (sym
       here.ends)) lead)
   act_runs (makes of tag home) order p q l vs args ops names slots c plain_ones stands ag le many also e =
       let here = parts_of.of_one (makes_case of tag order home) p q stands in
       let type = placed.types p of tag order home here.here in
       sim_spare by f _ (omega arith)
-      (make_runs by f (λ names slots. Agree by wide room scope names slots) of type.0 (see.is_linear of) tag
+      (make_runs by f (λ names slots. Agree by f wide room scope names slots) of type.0 (see.is_linear of) tag
       order home p q l vs args ops names slots c
       (placed.has p (makes_case of tag order home) here.here) here.ends ag many e type.1 (view.linear of
       type.0 type.1))
   act_runs (ships call born) order p q l vs args ops names slots c plain_ones stands ag le many also e =
-      ships_run by f get placed depth wide room scope call born order p q l vs args ops names slots c
+      ships_run by f get placed depth wide room scope distinct call born order p q l vs args ops names slots c
       (plain_ones call born refl) stands ag many also e
 
   -- by position
@@ -322,7 +329,7 @@ module _ {T C : Type 0} (by : Coding) (see : View ℕ T C) (invoke : ℕ → Lis
       of_callee : (o : Option (Callee ℕ)) → see.callee note c1 name ≡ o
           → OnAll by f get depth wide room scope count
           (code.calls o code.by_position) (λ values. meaning.calls see invoke o (acts.by_position values))
-      of_callee None is = no_act by f get placed depth wide room scope nothing count
+      of_callee None is = no_act by f get placed depth wide room scope distinct nothing count
       of_callee (Some one) is = position_runs one count (view.plain_calls note c1 name one is)
 
   -- by label
@@ -358,6 +365,6 @@ module _ {T C : Type 0} (by : Coding) (see : View ℕ T C) (invoke : ℕ → Lis
           → OnAll by f get depth wide room scope (length labels)
           (code.calls o (code.by_labels labels)) (λ values. meaning.calls see invoke o (acts.by_labels
           (meaning.labelled labels values)))
-      of_callee None is = no_act by f get placed depth wide room scope nothing (length labels)
+      of_callee None is = no_act by f get placed depth wide room scope distinct nothing (length labels)
       of_callee (Some one) is = label_runs one labels (view.parameters note c1 name one is)
           (view.plain_calls note c1 name one is)

@@ -1,12 +1,12 @@
 -- A shipped call tells more, and unsays nothing.
 use Rattle.std.proofs.Common.{ℕ, ◌-◌, Bool, true, false, if◌then◌else◌, List, [], ◌∷◌, ◌++◌, length, Option}
-use Rattle.std.proofs.Common.{Some, None, slice_get, set, refl, codes}
-use Rattle.std.proofs.Common.{pos}
+use Rattle.std.proofs.Common.{Some, None, slice_get, set, refl, codes, pos}
 use Rattle.au_shipped.specs.declared.prims.ShippedCall.{ShippedCall}
 use Rattle.au_shipped.specs.declared.prims.ShippedCall.TheVariants as prim
 use Rattle.au_effects.specs.Answers.{Answer, gives, writes, waits, aborts, none}
 use Rattle.au_effects.specs.Calls.{untyped, of_one, of_two, of_three, of_none, given, use_of, buffer_use}
-use Rattle.au_effects.specs.Calls.{shipped, reference_in, buffer_in, elements_in, last_taken, element_copied}
+use Rattle.au_effects.specs.Calls.{shipped, buffer_in, elements_in, last_taken, element_copied}
+use Rattle.au_effects.specs.References.{reference_in, put_behind}
 use Rattle.au_effects.specs.Calls.{element_replaced, buffer_ended, byte_read, index_in, natural_in, root_in}
 use Rattle.au_effects.specs.Calls.{box_in, terminal_in, with_elements}
 use Rattle.au_base.specs.declared.kinds.IntKind.TheVariants.{Nat8, Index}
@@ -123,30 +123,29 @@ module _ {T B : Type 0} where
   tells_buffer_end id [] w = begins_ends id w
   tells_buffer_end id (value ∷ values) w = begins_refl w.deeds
 
-  -- an exchange changes no deed
-  exchanged_keeps : (place : Place) (new : Value T) (w : World T B) (borrow : ℕ)
-      → AnswerTells w.deeds (given (exchanged place new w) (λ pair. gives pair.0 (tells (used borrow)
-      pair.1)))
-  exchanged_keeps place new w borrow = over (base_at place.base w)
+  -- what is put behind a reference tells a use, and nothing else
+  put_tells : (one : ℕ × Place) (new : Value T) (w : World T B)
+      → AnswerTells w.deeds (given (put_behind one new w) (λ pair. gives pair.0 pair.1))
+  put_tells one new w = over (base_at one.1.base told)
     where
-      by_base : (base : _) (path : List ℕ) (value : Value T)
-          → Begins w.deeds (tells (used borrow) (base_set base value w)).deeds
-      by_base (name_of frame name) path value = begins_told (used borrow) (base_set (name_of frame name)
-          value w)
-      by_base (content_of birth) path value = begins_told (used borrow) (base_set (content_of birth) value
-          w)
+      told : World T B
+      told = tells (used one.0) w
+
+      by_base : (base : _) (value : Value T) → Begins w.deeds (base_set base value told).deeds
+      by_base (name_of frame name) value = begins_told (used one.0) w
+      by_base (content_of birth) value = begins_told (used one.0) w
 
       by_part : (value : Value T) (p : Option (Value T))
-          → AnswerTells w.deeds (given (along {A = Value T} {B = Value T
-          × World T B} p (λ old. Some (old, base_set place.base (with_part place.path new value) w))) (λ
-          pair. gives pair.0 (tells (used borrow) pair.1)))
+          → AnswerTells w.deeds (given (along {A = Value T} {B = Value T × World T B} p
+          (λ old. Some (old, base_set one.1.base (with_part one.1.path new value) told)))
+          (λ pair. gives pair.0 pair.1))
       by_part value None = tt
-      by_part value (Some old) = by_base place.base place.path (with_part place.path new value)
+      by_part value (Some old) = by_base one.1.base (with_part one.1.path new value)
 
-      over : (o : Option (Value T)) → AnswerTells w.deeds (given (set_over place new w o) (λ pair. gives
-          pair.0 (tells (used borrow) pair.1)))
+      over : (o : Option (Value T))
+          → AnswerTells w.deeds (given (set_over one.1 new told o) (λ pair. gives pair.0 pair.1))
       over None = tt
-      over (Some value) = by_part value (part place.path value)
+      over (Some value) = by_part value (part one.1.path value)
 
   -- a byte that was read
   pub byte_tells : (byte : Option ℕ) (w : World T B) (a : Value T)
@@ -180,7 +179,7 @@ module _ {T B : Type 0} where
     shipped_tells prim.SpanLength of w args = tells_untyped w.deeds of _ (tells_one w.deeds _ args (λ a.
         tells_given w.deeds (text_in a) _ (λ t. begins_refl w.deeds)))
     shipped_tells prim.Swap of w args = tells_untyped w.deeds of _ (tells_two w.deeds _ args (λ a new.
-        tells_given w.deeds (reference_in a) _ (λ one. exchanged_keeps one.1 new w one.0)))
+        tells_given w.deeds (reference_in a) _ (λ one. put_tells one new w)))
     shipped_tells prim.MakeBox of w args = tells_one w.deeds _ args (λ a. tells_given w.deeds of _ (λ t.
         begins_bears t (codes "Standard.Box") (content a) w))
     shipped_tells prim.Unbox of w args = tells_untyped w.deeds of _ (tells_one w.deeds _ args (λ a.

@@ -9,8 +9,9 @@ use Rattle.au_lowered.proofs.StandLemmas.{parts_stand}
 use Rattle.au_meaning.specs.Expressions.{chosen}
 use Rattle.au_meaning.specs.Ticks.{Action, pure, tick, ◌>>=◌}
 use Rattle.au_meaning.specs.Worlds.{Value}
-use Rattle.au_lowered.specs.Scopes.{Entry, Agree}
-use Rattle.au_lowered.specs.Sides.{Coding, Both, Names, Slots, Common, Frame, Spot, spot, world, meant}
+use Rattle.au_lowered.specs.Scopes.{Entry}
+use Rattle.au_lowered.specs.Frames.{Wide, Agree, Frame, spot, world}
+use Rattle.au_lowered.specs.Sides.{Coding, Both, Names, Slots, Common, Spot, meant}
 use Rattle.au_lowered.specs.Runs.{at, Leads, Sim}
 use Rattle.au_lowered.proofs.LeadLemmas.{leads_more, leads_to}
 use Rattle.au_lowered.proofs.SimLemmas.{sim_on, sim_spare, sim_given, sim_bind, sim_bind_more, sim_more}
@@ -19,19 +20,19 @@ use Rattle.au_lowered.proofs.MoveLemmas.{jump_reach, choose_by, choose_runs}
 use Rattle.au_lowered.specs.Premises.{Placed}
 use Rattle.au_lowered.specs.Rows.{value_aim, Gives}
 
-module _ (by : Coding) (f : Frame) (get : ℕ → Option Draft) (placed : Placed by f.function get) (depth wide
-    room : ℕ) (scope : List (Entry by)) where
+module _ (by : Coding) (f : Frame by) (get : ℕ → Option Draft) (placed : Placed by f.function get)
+    (depth : ℕ) (wide : Wide) (room : ℕ) (scope : List (Entry by)) where
   parts : PartsStandIn get
   parts = parts_stand get
 
   abbrev pub Held_so : Names → Slots → Type 0
-  Held_so names slots = Agree by wide room scope names slots
+  Held_so names slots = Agree by f wide room scope names slots
 
   -- an expression and then a jump
   gives_jump : {w : Written} {m : Action Value} (label p p2 r q : ℕ) (ops : List (Both by)) (names : Names)
       (slots : Slots) (c : Common by) (n : ℕ)
       → Gives by f get depth wide room scope w m → Stands get w p p2 → Stands get (does (instr.Jump q)) p2 r
-      → Agree by wide room scope names slots → n ≤ depth
+      → Agree by f wide room scope names slots → n ≤ depth
       → Sim by f (value_aim by f get depth wide room scope q ops) 5 (spot by f p ops slots c) n (m (world by
       f names c) n)
   gives_jump {w} {m} label p p2 r q ops names slots c n a stands jump ag le =

@@ -1,8 +1,8 @@
 -- Arguments that are popped, values with births, and shipped calls.
 use Rattle.std.proofs.Common.{◌≡◌, ℕ, suc, ◌+◌, ◌<◌, Bool, true, false, if◌then◌else◌, List, [], ◌∷◌, ◌++◌}
 use Rattle.std.proofs.Common.{length, map, take, drop, reverse, Option, Some, None, refl, sym, ap, ap₂, subst}
-use Rattle.std.proofs.Common.{◌∙◌, arith, slice_get, set, nat_lt, lt-ltb, append_assoc}
-use Rattle.std.proofs.lemmas.List.{length-append, length-map, length-reverse, map-append, map-set}
+use Rattle.std.proofs.Common.{◌∙◌, arith, slice_get, nat_lt, lt-ltb, append_assoc}
+use Rattle.std.proofs.lemmas.List.{length-append, length-map, length-reverse, map-append}
 use Rattle.std.proofs.lemmas.List.{reverse-append, reverse-reverse, take_at, drop_at}
 use Rattle.au_type_texts.specs.Types.{ClosedType}
 use Rattle.au_low.specs.declared.code.LowType.{LowType}
@@ -10,52 +10,18 @@ use Rattle.au_low.specs.declared.instructions.Instr.TheVariants as instr
 use Rattle.au_low.specs.Instructions as low
 use Rattle.au_low.specs.Instructions.{act}
 use Rattle.au_low.specs.Machines as machines
-use Rattle.au_low.specs.Machines.{Low, Machine, Next, goes, pushes, having, popping_all, ordered}
-use Rattle.au_effects.specs.Values.{Value, made, fields_of}
-use Rattle.au_effects.specs.Worlds as effects
-use Rattle.au_effects.specs.Worlds.{World, Held, Deed, nothing, tells, bears, ends, spends}
+use Rattle.au_low.specs.Machines.{Low, Machine, Next, pushes, having, popping_all, ordered}
+use Rattle.au_effects.specs.Values.{made, fields_of}
+use Rattle.au_effects.specs.Worlds.{nothing, bears}
 use Rattle.au_meaning.specs.Acts as acts
 use Rattle.au_meaning.specs.Ticks.{gives, follows}
-use Rattle.au_lowered.specs.Maps.{held_to, deed_to, world_to}
-use Rattle.au_lowered.specs.Sides.{Coding, Word, Both, Names, Slots, Common, Frame, machine, spot, world}
+use Rattle.au_lowered.specs.Maps.{held_to}
+use Rattle.au_lowered.specs.Sides.{as_meant, as_ran, Coding, Both, Names, Slots, Common}
+use Rattle.au_lowered.specs.Frames.{Frame, machine, spot, world}
 use Rattle.au_lowered.specs.Sides.{meant, ran, all_meant, all_ran}
+use Rattle.au_lowered.proofs.DeedLemmas.{bears_to}
 use Rattle.au_lowered.proofs.MapLemmas.{fields_of_to}
 use Rattle.au_lowered.proofs.StepLemmas.{Is, Pushes, push_runs}
-
--- ---- births and deeds
-
-module _ {T S B D : Type 0} (f : T → S) (g : B → D) (frames : List (List (Option (Value S)))) where
-  pub tells_to : (deed : Deed B) (w : World T B)
-      → tells (deed_to g deed) (world_to f g frames w) ≡ world_to f g frames (tells deed w)
-  tells_to deed w = ap (λ deeds. record (world_to f g frames w) { deeds = deeds }) (kept w.keeps)
-    where
-      kept : (b : Bool)
-          → (if b then map (deed_to g) w.deeds ++ deed_to g deed ∷ [] else map (deed_to g) w.deeds)
-          ≡ map (deed_to g) (if b then w.deeds ++ deed ∷ [] else w.deeds)
-      kept true = sym (map-append (deed_to g) w.deeds (deed ∷ []))
-      kept false = refl
-
-  pub bears_to : (of : B) (home : List ℕ) (held : Held T) (w : World T B)
-      → bears (g of) home (held_to f held) (world_to f g frames w)
-      ≡ world_to f g frames (bears of home held w)
-  bears_to of home held w =
-      ap₂ (λ id births. tells (effects.born id (g of) home) (record (world_to f g frames w) {
-        births =
-            births;
-      }))
-      (length-map w.births (held_to f)) (sym (map-append (held_to f) w.births (held ∷ [])))
-      ∙ tells_to (effects.born (length w.births) of home) (record w { births = w.births ++ held ∷ [] })
-
-  pub ends_to : (id : ℕ) (w : World T B) → ends id (world_to f g frames w) ≡ world_to f g frames (ends id w)
-  ends_to id w =
-      ap (λ births. tells (effects.consumed id) (record (world_to f g frames w) { births = births }))
-      (sym (map-set (held_to f) w.births id nothing))
-      ∙ tells_to (effects.consumed id) (record w { births = set w.births id nothing })
-
-  pub spends_to : (birth : Option ℕ) (w : World T B)
-      → spends birth (world_to f g frames w) ≡ world_to f g frames (spends birth w)
-  spends_to None w = refl
-  spends_to (Some id) w = tells_to (effects.consumed id) w
 
 -- ---- arguments
 
@@ -70,7 +36,7 @@ pub pushed_more : {A : Type 0} (x : A) (xs ops : List A) → reverse xs ++ x ∷
 pushed_more x xs ops =
     sym (append_assoc (reverse xs) (x ∷ []) ops) ∙ ap (λ ys. ys ++ ops) (sym (reverse-append (x ∷ []) xs))
 
-module _ (by : Coding) (f : Frame) where
+module _ (by : Coding) (f : Frame by) where
   operands_are : (vs ops : List (Both by)) → all_ran by (reverse vs ++ ops)
       ≡ reverse (all_ran by vs) ++ all_ran by ops
   operands_are vs ops =
@@ -136,11 +102,11 @@ module _ (by : Coding) (f : Frame) where
 
         view_is : (birth : Option ℕ) → made tag birth (fields_of (all_meant by args))
             ≡ meant by (made tag birth (fields_of args))
-        view_is birth = ap (λ fields. made tag birth fields) (fields_of_to (λ (w : Word by). w.bytes) args)
+        view_is birth = ap (λ fields. made tag birth fields) (fields_of_to (as_meant by) args)
 
         low_is : (birth : Option ℕ) → made tag birth (fields_of (all_ran by args))
             ≡ ran by (made tag birth (fields_of args))
-        low_is birth = ap (λ fields. made tag birth fields) (fields_of_to (λ (w : Word by). by.text w.bytes)
+        low_is birth = ap (λ fields. made tag birth fields) (fields_of_to (as_ran by)
             args)
 
         made_so : (b : Bool) → type.linear ≡ b
@@ -160,16 +126,15 @@ module _ (by : Coding) (f : Frame) where
             let new = record c { store = bears of home nothing c.store } in
             let id = length c.store.births in
             let meant_id : length (world by f names c).store.births
-            ≡ id = length-map c.store.births (held_to (λ (w : Word by). w.bytes)) in
-            let ran_id : length m.world.births ≡ id = length-map c.store.births (held_to (λ (w : Word by).
-            by.text w.bytes)) in
+            ≡ id = length-map c.store.births (held_to (as_meant by)) in
+            let ran_id : length m.world.births ≡ id = length-map c.store.births (held_to (as_ran by)) in
             subst (λ v. Pushes by f Holds q ops 7 (spot by f p (reverse vs ++ ops) slots c) (suc l) (gives v
             (acts.in_store (bears of home nothing (world by f names c).store) (world by f names c)) l))
             (sym (ap (λ n. made tag (Some n) (fields_of (all_meant by args))) meant_id ∙ view_is (Some id)))
             (subst (λ store. Pushes by f Holds q ops 7 (spot by f p (reverse vs ++ ops) slots c) (suc l)
             (gives (meant by (made tag (Some id) (fields_of args))) (acts.in_store store (world by f
             names c)) l))
-            (sym (bears_to (λ (w : Word by). w.bytes) (λ (t : ClosedType). t) (f.under ++ names ∷ []) of
+            (sym (bears_to (as_meant by) (λ (t : ClosedType). t) (names.below ++ names.own ∷ []) of
             home nothing c.store))
             (push_runs by f Holds (instr.Make (by.of of) tag order home) p q l (made tag (Some id)
             (fields_of args)) ops (reverse vs ++ ops) names slots slots new c is next h refl refl
@@ -179,5 +144,5 @@ module _ (by : Coding) (f : Frame) where
             None (fields_of (all_ran by args))) m) e
             ∙ ap₂ (λ v w. pushes v (machines.in_world w m)) (ap (λ n. made tag (Some n) (fields_of (all_ran
             by args))) ran_id ∙ low_is (Some id))
-            (bears_to (λ (w : Word by). by.text w.bytes) by.of (f.below ++ slots ∷ []) of home nothing
+            (bears_to (as_ran by) by.of (slots.below ++ slots.own ∷ []) of home nothing
             c.store))))

@@ -15,7 +15,8 @@ use Rattle.au_meaning.specs.Views.{View}
 use Rattle.au_syntax.specs.Plain.{Bytes}
 use Rattle.au_syntax.specs.Statements.{Arms, arms, no_arms}
 use Rattle.au_lowered.specs.Scopes.{Entry}
-use Rattle.au_lowered.specs.Sides.{Coding, Frame, Spot}
+use Rattle.au_lowered.specs.Sides.{Coding, Spot}
+use Rattle.au_lowered.specs.Frames.{Wide, Frame}
 use Rattle.au_lowered.specs.Runs.{Sim}
 use Rattle.au_lowered.proofs.FrameLemmas.{get_at}
 use Rattle.au_lowered.proofs.SimLemmas.{sim_spare}
@@ -79,8 +80,8 @@ counted_tag tag (Some other) place rest h = (by_same (other == tag) refl, omega 
     by_same false e = e
     by_same true e = let same = eqb-true other tag e in absurd (omega (arith, h, same))
 
-module _ (by : Coding) (f : Frame) (get : ℕ → Option Draft) (placed : Placed by f.function get) (depth wide
-    room : ℕ) where
+module _ (by : Coding) (f : Frame by) (get : ℕ → Option Draft) (placed : Placed by f.function get)
+    (depth : ℕ) (wide : Wide) (room : ℕ) where
   -- a jump behind an arm, unless the arm needs none
   pub arm_ends : {s : Spot} {n : ℕ} {T C : Type 0} (see : View ℕ T C) (around slot : ℕ) (slots : Scope)
       (note : T) (rest : Arms Bytes T C) (out : Bool) (m next q : ℕ) (scope : List (Entry by)) (r : Out

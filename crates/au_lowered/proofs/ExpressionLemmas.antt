@@ -1,12 +1,12 @@
 -- The code of an expression does what the expression means: one row for each form.
 use Rattle.std.proofs.Common.{◌≡◌, ℕ, suc, List, [], ◌∷◌, ◌++◌, length, reverse, Option, refl, ap, arith}
-use Rattle.std.proofs.Common.{le_trans, neg_ℤ}
+use Rattle.std.proofs.Common.{le_trans, neg_ℤ, Bool, true, ◌||◌}
 use Rattle.au_lowered.specs.Drafts.{Draft, Written, ◌>>◌, nothing}
 use Rattle.au_lowered.specs.Expressions as code
 use Rattle.au_lowered.specs.Standing.{PartsStandIn}
 use Rattle.au_lowered.proofs.StandLemmas.{parts_stand}
 use Rattle.au_meaning.specs.Expressions as meaning
-use Rattle.au_meaning.specs.Expressions.{eval, eval_all, eval_named, note_of, names_of, labels, labelled}
+use Rattle.au_meaning.specs.Expressions.{eval, eval_all, eval_named, note_of, names_of, labels}
 use Rattle.au_meaning.specs.Expressions.{Operation, computes, compares, is_and, is_or, operation_of, kind_in}
 use Rattle.au_meaning.specs.Expressions.{compared_kind}
 use Rattle.au_meaning.specs.Ticks.{Action, pure, stuck, tick, ◌>>=◌}
@@ -17,8 +17,9 @@ use Rattle.au_syntax.specs.Expressions.{nil, path, arrow, call, named_call, pare
 use Rattle.au_syntax.specs.Expressions.{borrow, borrow_part, binary, negation, typed, choice, no_expressions}
 use Rattle.au_syntax.specs.Expressions.{expressions, no_arguments, arguments}
 use Rattle.au_syntax.specs.Plain.{Bytes}
-use Rattle.au_lowered.specs.Scopes.{Entry, numbers_in, slots_in, Agree, Distinct}
-use Rattle.au_lowered.specs.Sides.{Coding, Frame, spot, world, meant, all_meant}
+use Rattle.au_lowered.specs.Scopes.{Entry, numbers_in, slots_in, Distinct}
+use Rattle.au_lowered.specs.Frames.{Wide, Agree, Frame, spot, world}
+use Rattle.au_lowered.specs.Sides.{Coding, meant, all_meant}
 use Rattle.au_lowered.specs.Runs.{at}
 use Rattle.au_lowered.proofs.CallLemmas.{pushed_more}
 use Rattle.au_lowered.proofs.LeadLemmas.{leads_none, leads_to}
@@ -30,6 +31,8 @@ use Rattle.au_lowered.proofs.BranchLemmas.{choice_runs, and_runs, or_runs}
 use Rattle.au_lowered.proofs.RowLemmas.{truth_runs, nil_runs, text_runs, number_runs, mention_runs, part_runs}
 use Rattle.au_lowered.proofs.RowLemmas.{one_runs, two_runs, not_runs, computes_runs, compares_runs}
 use Rattle.au_lowered.proofs.ActLemmas.{calls_run, named_run}
+use Rattle.std.proofs.lemmas.Bool.{or_left, or_right}
+use Rattle.au_lowered.proofs.ReferenceRows.{arrow_runs, dereference_runs, operand_runs, borrow_runs, borrow_part_runs}
 
 -- how many arguments there are
 abbrev pub count_of : {N T C : Type 0} → Expressions N T C → ℕ
@@ -37,10 +40,10 @@ count_of no_expressions = 0
 count_of (expressions e rest) = suc (count_of rest)
 
 module _ {T C : Type 0} (by : Coding) (see : View ℕ T C) (invoke : ℕ → List Value
-    → Action Value) (depth : ℕ) (f : Frame)
+    → Action Value) (depth : ℕ) (f : Frame by)
     (get : ℕ → Option Draft) (placed : Placed by f.function get) (view : GoodView by see) (calls : GoodCalls
     by invoke depth)
-    (wide room : ℕ) (scope : List (Entry by)) (distinct : Distinct by scope) where
+    (wide : Wide) (room : ℕ) (scope : List (Entry by)) (distinct : Distinct by scope) where
   parts : PartsStandIn get
   parts = parts_stand get
 
@@ -83,7 +86,7 @@ module _ {T C : Type 0} (by : Coding) (see : View ℕ T C) (invoke : ℕ → Lis
   more_run {wa} {wb} {ma} {mb} count a b = record {
     runs = λ p q ops names slots c n stands ag le.
         let row = parts.of_row wa wb p q stands in
-        sim_bind by f (meant by) (λ v names slots. Agree by wide room scope names slots) (λ v slots c. spot
+        sim_bind by f (meant by) (λ v names slots. Agree by f wide room scope names slots) (λ v slots c. spot
         by f row.middle (v ∷ ops) slots c)
         (ma (world by f names c) n) (λ value. mb >>= λ values. pure (value ∷ values)) (a.runs p row.middle
         ops names slots c n row.first ag le) (λ x names slots c m ag few.
@@ -106,7 +109,7 @@ module _ {T C : Type 0} (by : Coding) (see : View ℕ T C) (invoke : ℕ → Lis
     runs = λ p q ops names slots c n stands ag le.
         let row = parts.of_row wa wb p q stands in
         sim_bind by f (all_meant by) (λ vs names slots. (length vs ≡ count)
-        × Agree by wide room scope names slots) (λ vs slots c. spot by f row.middle (reverse vs ++ ops)
+        × Agree by f wide room scope names slots) (λ vs slots c. spot by f row.middle (reverse vs ++ ops)
         slots c)
         (ma (world by f names c) n) (λ values. tick (go values)) (a.runs p row.middle ops names slots c n
         row.first ag le) (λ vs names slots c m h few.
@@ -114,55 +117,77 @@ module _ {T C : Type 0} (by : Coding) (see : View ℕ T C) (invoke : ℕ → Lis
         b.runs row.middle q vs ops names slots c l h.0 row.second h.1 (omega (arith, le, few, e))));
   }
 
+  -- what opens a borrow opens one in the whole expression
+  abbrev pub May : Bool → Type 0
+  May opens = opens ≡ true → wide.opens ≡ true
+
+  may_left : (a b : Bool) → May (a || b) → May a
+  may_left a b h e = h (or_left a b e)
+
+  may_right : (a b : Bool) → May (a || b) → May b
+  may_right a b h e = h (or_right a b e)
+
   mutual
-    pub expression_runs : (e : Expression Bytes T C)
+    pub expression_runs : (e : Expression Bytes T C) → May (code.opens e)
         → Gives_so (code.code see (slots_in by scope) e) (eval see invoke (numbers_in by scope) e)
-    expression_runs (number n l) = number_runs by f get placed depth wide room scope (kind_in (see.type_of
+    expression_runs (number n l) h = number_runs by f get placed depth wide room scope (kind_in (see.type_of
         n.note)) l.value
-    expression_runs (negative n l) = number_runs by f get placed depth wide room scope (kind_in (see.type_of
+    expression_runs (negative n l) h = number_runs by f get placed depth wide room scope (kind_in (see.type_of
         n.note)) (neg_ℤ l.value)
-    expression_runs (text n t) = text_runs by f get placed depth wide room scope t
-    expression_runs (truth n b) = truth_runs by f get placed depth wide room scope b
-    expression_runs (nil n) = nil_runs by f get placed depth wide room scope
-    expression_runs (path n x []) =
+    expression_runs (text n t) h = text_runs by f get placed depth wide room scope t
+    expression_runs (truth n b) h = truth_runs by f get placed depth wide room scope b
+    expression_runs (nil n) h = nil_runs by f get placed depth wide room scope
+    expression_runs (path n x []) h =
         mention_runs by f get placed depth wide room scope see n.note x.name distinct (λ value e.
         view.constants n.note x.name value e)
-    expression_runs (path n x (field ∷ fields)) =
+    expression_runs (path n x (field ∷ fields)) h =
         part_runs by f get placed depth wide room scope see x.name (names_of (field ∷ fields))
-    expression_runs (arrow n r fields) = stuck_runs (code.code see (slots_in by scope) (arrow n r fields))
-    expression_runs (call n f1 args c1) =
-        all_run (count_of args) (all_expressions_run args)
-        (calls_run by see invoke depth f get placed view calls wide room scope n.note c1 f1.name (count_of
-        args))
-    expression_runs (named_call n f1 args c1) =
-        all_run (length (labels args)) (all_arguments_run args)
-        (named_run by see invoke depth f get placed view calls wide room scope n.note c1 f1.name (labels
-        args))
-    expression_runs (parenthesized n e) = expression_runs e
-    expression_runs (dereference n e) = stuck_runs (code.code see (slots_in by scope) (dereference n e))
-    expression_runs (borrow n mode x) = stuck_runs (code.code see (slots_in by scope) (borrow n mode x))
-    expression_runs (borrow_part n r fields) = stuck_runs (code.code see (slots_in by scope) (borrow_part n
-        r fields))
-    expression_runs (binary n op a b) = joins_run (operation_of op) n.note (note_of a) (expression_runs a)
-        (expression_runs b)
-    expression_runs (negation n e) =
-        one_runs by f get placed depth wide room scope (expression_runs e) (not_runs by f get placed depth
+    expression_runs (arrow n r fields) h =
+        arrow_runs by f get placed depth wide room scope distinct see r.name (names_of fields)
+    expression_runs (call n f1 args c1) h =
+        all_run (count_of args) (all_expressions_run args h)
+        (calls_run by see invoke depth f get placed view calls wide room scope distinct n.note c1 f1.name
+        (count_of args))
+    expression_runs (named_call n f1 args c1) h =
+        all_run (length (labels args)) (all_arguments_run args h)
+        (named_run by see invoke depth f get placed view calls wide room scope distinct n.note c1 f1.name
+        (labels args))
+    expression_runs (parenthesized n e) h = expression_runs e h
+    expression_runs (dereference n e) h =
+        one_runs by f get placed depth wide room scope
+        (operand_runs by f get placed depth wide room scope distinct e (expression_runs e h))
+        (dereference_runs by f get placed depth wide room scope distinct)
+    expression_runs (borrow n mode x) h =
+        borrow_runs by f get placed depth wide room scope distinct mode x.name (h refl)
+    expression_runs (borrow_part n r fields) h =
+        borrow_part_runs by f get placed depth wide room scope distinct see r.name (names_of fields)
+    expression_runs (binary n op a b) h =
+        joins_run (operation_of op) n.note (note_of a)
+        (expression_runs a (may_left (code.opens a) (code.opens b) h))
+        (expression_runs b (may_right (code.opens a) (code.opens b) h))
+    expression_runs (negation n e) h =
+        one_runs by f get placed depth wide room scope (expression_runs e h) (not_runs by f get placed depth
         wide room scope)
-    expression_runs (typed n e t) = expression_runs e
-    expression_runs (choice n c1 a b) =
-        choice_runs by f get placed depth wide room scope (expression_runs c1) (expression_runs a)
-        (expression_runs b)
+    expression_runs (typed n e t) h = expression_runs e h
+    expression_runs (choice n c1 a b) h =
+        let rest = may_right (code.opens c1) (code.opens a || code.opens b) h in
+        choice_runs by f get placed depth wide room scope
+        (expression_runs c1 (may_left (code.opens c1) (code.opens a || code.opens b) h))
+        (expression_runs a (may_left (code.opens a) (code.opens b) rest))
+        (expression_runs b (may_right (code.opens a) (code.opens b) rest))
 
-    all_expressions_run : (args : Expressions Bytes T C)
+    all_expressions_run : (args : Expressions Bytes T C) → May (code.one_opens args)
         → All_so (count_of args) (code.code_of_all see (slots_in by scope) args) (eval_all see invoke
         (numbers_in by scope) args)
-    all_expressions_run no_expressions = none_run
-    all_expressions_run (expressions e rest) = more_run (count_of rest) (expression_runs e)
-        (all_expressions_run rest)
+    all_expressions_run no_expressions h = none_run
+    all_expressions_run (expressions e rest) h =
+        more_run (count_of rest) (expression_runs e (may_left (code.opens e) (code.one_opens rest) h))
+        (all_expressions_run rest (may_right (code.opens e) (code.one_opens rest) h))
 
-    all_arguments_run : (args : Arguments Bytes T C)
+    all_arguments_run : (args : Arguments Bytes T C) → May (code.one_opens_named args)
         → All_so (length (labels args)) (code.code_of_named see (slots_in by scope) args) (eval_named see
         invoke (numbers_in by scope) args)
-    all_arguments_run no_arguments = none_run
-    all_arguments_run (arguments label e rest) = more_run (length (labels rest)) (expression_runs e)
-        (all_arguments_run rest)
+    all_arguments_run no_arguments h = none_run
+    all_arguments_run (arguments label e rest) h =
+        more_run (length (labels rest)) (expression_runs e (may_left (code.opens e) (code.one_opens_named rest)
+        h)) (all_arguments_run rest (may_right (code.opens e) (code.one_opens_named rest) h))

@@ -1,6 +1,6 @@
 -- `for`.
 use Rattle.std.proofs.Common.{◌≡◌, ℕ, zero, suc, ◌+◌, ◌<◌, ◌≤◌, Bool, true, false, not, if◌then◌else◌, List}
-use Rattle.std.proofs.Common.{[], ◌∷◌, Option, Some, None, refl, sym, ap, ap₂, subst, subst₂, ◌∙◌, arith, set}
+use Rattle.std.proofs.Common.{[], ◌∷◌, Option, Some, None, refl, sym, ap, ap₂, subst, subst₂, ◌∙◌, arith}
 use Rattle.std.proofs.Common.{ℤ, pos, ◌+ℤ◌, int_lt, le_trans}
 use Rattle.std.proofs.lemmas.List.{length-set}
 use Rattle.au_base.specs.declared.kinds.IntKind.{IntKind}
@@ -12,32 +12,32 @@ use Rattle.au_low.specs.declared.instructions.Instr.TheVariants as instr
 use Rattle.au_low.specs.Instructions as low
 use Rattle.au_low.specs.Instructions.{act, jumps, jumps_unless}
 use Rattle.au_low.specs.Machines as machines
-use Rattle.au_low.specs.Machines.{Machine, Next, goes}
+use Rattle.au_low.specs.Machines.{Next, goes}
 use Rattle.au_lowered.specs.Drafts.{Draft, plain, Written, ◌>>◌, does, unless}
 use Rattle.au_lowered.specs.Standing.{Stands, InTurns, PartsStandIn}
 use Rattle.au_lowered.specs.Statements.{turns}
 use Rattle.au_lowered.proofs.StandLemmas.{parts_stand}
 use Rattle.au_meaning.specs.Acts.{holds, with_value}
 use Rattle.au_meaning.specs.Statements as meaning
-use Rattle.au_meaning.specs.Statements.{Flow, and_then, leaves, within, for_turns, ranges, both_numbers}
+use Rattle.au_meaning.specs.Statements.{Flow, within, for_turns, ranges, both_numbers}
 use Rattle.au_meaning.specs.Ticks as ticks
-use Rattle.au_meaning.specs.Ticks.{Out, Action, gives, pure, tick, ticked, follows, where_true, ◌>>=◌}
+use Rattle.au_meaning.specs.Ticks.{Out, Action, gives, pure, tick, follows, where_true, ◌>>=◌}
 use Rattle.au_meaning.specs.Worlds.{Value}
 use Rattle.au_syntax.specs.Plain.{Bytes}
-use Rattle.au_lowered.specs.Scopes.{Entry, variable, kept, Scoped, Agree, SlotFree}
-use Rattle.au_lowered.specs.Sides.{Coding, Word, Both, Names, Slots, Common, Frame, Spot, machine, spot}
-use Rattle.au_lowered.specs.Sides.{world, meant, ran}
+use Rattle.au_lowered.specs.Scopes.{Entry, variable, kept, Scoped, SlotFree}
+use Rattle.au_lowered.specs.Frames.{Wide, Agree, name_put, slot_put, Frame, machine, spot, world}
+use Rattle.au_lowered.specs.Sides.{as_meant, Coding, Both, Names, Slots, Common, Spot, meant, ran}
 use Rattle.au_lowered.specs.Runs.{at, reached, Leads, aim_at, Sim}
-use Rattle.au_lowered.proofs.FrameLemmas.{set_same, set_other, held_other, held_slot, number_free, slot_free}
-use Rattle.au_lowered.proofs.FrameLemmas.{under_more}
+use Rattle.au_lowered.proofs.FrameLemmas.{set_same, set_other, held_slot, number_free, slot_free, under_more}
 use Rattle.au_lowered.proofs.LeadLemmas.{leads_spare, leads_more, leads_to, leads_tick}
 use Rattle.au_lowered.proofs.MapLemmas.{number_in_to}
 use Rattle.au_lowered.proofs.SimLemmas.{sim_on, sim_spare, sim_given, sim_stuck, sim_bind, sim_where}
 use Rattle.au_lowered.proofs.StepLemmas.{meant_set, ran_at, ran_set, ticks_at}
 use Rattle.au_lowered.proofs.MoveLemmas.{jump_goes, store_goes}
 use Rattle.au_lowered.specs.Premises.{Placed}
-use Rattle.au_lowered.specs.Flows.{falls, flow_aim, Behind, Does, Whole}
-use Rattle.au_lowered.proofs.FlowLemmas.{flow_holds, then_runs, leaves_run, agree_emptied}
+use Rattle.au_lowered.specs.Flows.{falls, flow_aim, Behind, Does, Whole, Inside}
+use Rattle.au_lowered.proofs.FlowLemmas.{then_runs, empties_run, ended_emptied, ended_outer}
+use Rattle.au_lowered.proofs.LevelLemmas.{level_of, agree_new, agree_kept}
 
 -- a value that is a number
 pub number_is : {T : Type 0} (v : values.Value T) (kind : IntKind) (z : ℤ) → number_in v ≡ Some (kind, z)
@@ -56,8 +56,8 @@ number_is (values.buffer id) kind z e = absurd (grind arith)
 number_is (values.terminal id) kind z e = absurd (grind arith)
 number_is (values.root id) kind z e = absurd (grind arith)
 
-module _ (by : Coding) (f : Frame) (get : ℕ → Option Draft) (placed : Placed by f.function get) (depth wide
-    room : ℕ) where
+module _ (by : Coding) (f : Frame by) (get : ℕ → Option Draft) (placed : Placed by f.function get)
+    (depth : ℕ) (wide : Wide) (room : ℕ) where
   parts : PartsStandIn get
   parts = parts_stand get
 
@@ -65,26 +65,53 @@ module _ (by : Coding) (f : Frame) (get : ℕ → Option Draft) (placed : Placed
   Behind_so out scope names slots = Behind by f get depth wide room out scope names slots
 
   abbrev Agree_so : List (Entry by) → Names → Slots → Type 0
-  Agree_so scope names slots = Agree by wide room scope names slots
+  Agree_so scope names slots = Agree by f wide room scope names slots
 
-  -- a value is put into a slot that no variable has
-  agree_kept : (scope : List (Entry by)) (slot : ℕ) (v : Both by) (names : Names) (slots : Slots)
-      → SlotFree by slot scope → slot < room
-      → Agree_so scope names slots → Agree_so (kept slot v ∷ scope) names (set slots slot (Some (ran by v)))
-  agree_kept scope slot v names slots free within ag = record {
-    names_are = ag.names_are;
-    slots_are = length-set slots slot (Some (ran by v)) ∙ ag.slots_are;
-    held = (
-      set_same slots slot (Some (ran by v)) (omega (arith, within, ag.slots_are)),
-      held_slot by scope
-          slot names slots (Some (ran by v)) free ag.held,
-    );
-  }
+  abbrev Inside_so : Bool → ℕ → ℕ → List (Entry by) → Names → Slots → Type 0
+  Inside_so out first top scope names slots = Inside by f get depth wide room out first top scope names slots
 
   -- what the slots of a loop hold
   abbrev pub loop_scope : ℕ → IntKind → IntKind → ℤ → ℤ → List (Entry by) → List (Entry by)
   loop_scope slot kind kind2 z last scope = kept (slot + 1) (values.number kind2 last) ∷ kept slot
       (values.number kind z) ∷ scope
+
+  -- the scope in a turn
+  pub scoped_loop : (number slot : ℕ) (scope : List (Entry by)) → Scoped by number slot scope
+      → by.slot number ≡ slot + 2
+      → (name : Bytes) (of : Option ClosedType) (kind kind2 : IntKind) (z last : ℤ)
+      → Scoped by (number + 1) (slot + 3) (variable name number (slot + 2) of ∷ loop_scope slot kind kind2 z last scope)
+  scoped_loop number slot scope scoped home name of kind kind2 z last =
+      let u = scoped.under in
+      record {
+        distinct = (
+          number_free by number slot number scope u (omega arith),
+          (
+            (λ e. absurd (omega (arith, e))),
+            (
+              (λ e. absurd (omega (arith, e))),
+              slot_free by number slot
+                  (slot + 2) scope u (omega arith),
+            ),
+          ),
+          home,
+          (
+            ((λ e. absurd (omega (arith, e))), slot_free by number slot (slot + 1) scope u (omega arith)),
+            (slot_free by number slot slot scope u (omega arith), scoped.distinct),
+          ),
+        );
+        under = (
+          omega arith,
+          omega arith,
+          (
+            omega arith,
+            (
+              omega arith,
+              under_more by number slot (number +
+                  1) (slot + 3) scope (omega arith) (omega arith) u,
+            ),
+          ),
+        );
+      }
 
   numbers_there : (slot p : ℕ) (ops : List (Both by)) (kind kind2 : IntKind) (z last : ℤ) (scope : List
       (Entry by)) (names : Names) (slots : Slots) (c : Common by) (go : IntKind → ℤ → ℤ → Next)
@@ -92,18 +119,20 @@ module _ (by : Coding) (f : Frame) (get : ℕ → Option Draft) (placed : Placed
       → low.slot_numbers slot (slot + 1) (machine by f p ops slots c) go ≡ go kind z last
   numbers_there slot p ops kind kind2 z last scope names slots c go ag same =
       ap₂ (λ a b. low.both_numbers (along a number_in) (along b number_in) go)
-      (ran_at by f slot p ops slots c (Some (values.number kind z)) ag.held.1.0)
-      (ran_at by f (slot + 1) p ops slots c (Some (values.number kind2 last)) ag.held.0)
+      (ran_at by f slot p ops slots c (Some (values.number kind z)) (level_of by f names slots ag.rest) ag.held.1.0)
+      (ran_at by f (slot + 1) p ops slots c (Some (values.number kind2 last)) (level_of by f names slots ag.rest)
+      ag.held.0)
       ∙ ap (λ b. machines.where_true b (go kind z last)) same
 
   module _ (number slot : ℕ) (scope : List (Entry by)) (scoped : Scoped by number slot scope) (fits : number
-      + 1 ≤ wide) (rooms : slot + 3 ≤ room)
+      + 1 ≤ wide.count) (rooms : slot + 3 ≤ room)
       (name : Bytes) (of : Option ClosedType) (kind kind2 : IntKind) (last : ℤ) (same : same_kind kind kind2
       ≡ true)
-      (out : Bool) (write : Written) (body : Action Flow) (count : ℕ)
+      (out : Bool) (write : Written) (body : Action Flow) (count : ℕ) (counts : 1 ≤ count)
       (body_does : (z : ℤ) → Does by f get depth wide room (variable name number (slot + 2) of ∷ loop_scope
       slot kind kind2 z last scope) write body
-      (Behind_so out (variable name number (slot + 2) of ∷ loop_scope slot kind kind2 z last scope))) where
+      (Inside_so out (number + 1) (number + count) (variable name number (slot + 2) of ∷ loop_scope slot kind
+      kind2 z last scope))) where
     -- a turn of the meaning
     abbrev pub turn_of : ℤ → Action Flow
     turn_of z = within number count (ticks.◌>>◌ (holds number (values.number kind z)) body)
@@ -135,41 +164,26 @@ module _ (by : Coding) (f : Frame) (get : ℕ → Option Draft) (placed : Placed
     agree_turn : (z : ℤ) (names : Names) (slots : Slots)
         → Agree_so (loop_scope slot kind kind2 z last scope) names slots
         → Agree_so (variable name number (slot + 2) of ∷ loop_scope slot kind kind2 z last scope)
-        (set names number (Some (values.number kind z))) (set slots (slot + 2) (Some (values.number kind
-        z)))
+        (name_put number (Some (values.number kind z)) names) (slot_put (slot + 2) (Some (values.number kind z))
+        slots)
     agree_turn z names slots ag =
         let inner = loop_scope slot kind kind2 z last scope in
+        let v : Both by = values.number kind z in
         let free = number_free by number (slot + 2) number inner (in_loop z).under (omega arith) in
         let free2 = slot_free by number (slot + 2) (slot + 2) inner (in_loop z).under (omega arith) in
-        record {
-          names_are = length-set names number (Some (values.number kind z)) ∙ ag.names_are;
-          slots_are = length-set slots (slot + 2) (Some (values.number kind z)) ∙ ag.slots_are;
-          held = (
-            record {
-              both = Some (values.number kind z);
-              in_name = set_same names number (Some (values.number kind z)) (omega (
-                arith,
-                ag.names_are,
-                fits,
-              ));
-              in_slot = set_same slots (slot + 2) (Some (values.number kind z)) (omega (
-                arith,
-                ag.slots_are,
-                rooms,
-              ));
-            },
-            held_other by inner number (slot + 2) names slots (Some (values.number kind z)) (Some
-                (values.number kind z)) free free2 ag.held,
-          );
-        }
+        agree_new by f wide room inner name number (slot + 2) of v names slots free free2 (omega (
+          arith,
+          ag.names_are,
+          fits,
+        )) (omega (arith, ag.slots_are, rooms)) ag
 
     -- LOOK and STORE before the body
     enters_turn : {s : Spot} {n l : ℕ} (p : ℕ) (z : ℤ) (names : Names) (slots : Slots) (c : Common by)
         → get p ≡ Some (plain (instr.Look slot [])) → get (p + 1) ≡ Some (plain (instr.Store (slot + 2)))
         → Agree_so (loop_scope slot kind kind2 z last scope) names slots
         → Leads by.code s n (at (spot by f p [] slots c)) l 7
-        → Leads by.code s n (at (spot by f (p + 1 + 1) [] (set slots (slot + 2) (Some (values.number kind
-        z))) c)) l 5
+        → Leads by.code s n (at (spot by f (p + 1 + 1) [] (slot_put (slot + 2) (Some (values.number kind
+        z)) slots) c)) l 5
     unfolding act
     enters_turn p z names slots c look store ag lead =
         let v : Both by = values.number kind z in
@@ -177,11 +191,12 @@ module _ (by : Coding) (f : Frame) (get : ℕ → Option Draft) (placed : Placed
         let looked : Leads by.code _ _ (at (spot by f (p + 1) (v ∷ []) slots c)) _ 6 =
         leads_to by.code
         (ap (λ o. reached (spot by f p [] slots c) (machines.having (along o (λ x. Some x)) (λ x.
-        machines.pushes x m))) (ran_at by f slot p [] slots c (Some v) ag.held.1.0))
+        machines.pushes x m))) (ran_at by f slot p [] slots c (Some v) (level_of by f names slots ag.rest)
+        ag.held.1.0))
         (leads_more by.code (instr.Look slot []) (placed.has p (plain (instr.Look slot [])) look) lead) in
         leads_to by.code
         (ap (λ nx. reached (spot by f (p + 1) (v ∷ []) slots c) nx) (store_goes by f (slot + 2) (p + 1) v []
-        slots c (omega (arith, ag.slots_are, rooms))))
+        slots c (level_of by f names slots ag.rest) (omega (arith, ag.slots_are, rooms))))
         (leads_more by.code (instr.Store (slot + 2)) (placed.has (p + 1) (plain (instr.Store (slot + 2)))
         store) looked)
 
@@ -189,32 +204,29 @@ module _ (by : Coding) (f : Frame) (get : ℕ → Option Draft) (placed : Placed
     turn_runs : (p q : ℕ) (z : ℤ) (names : Names) (slots : Slots) (c : Common by) (l : ℕ)
         → Stands get write p q → Agree_so (loop_scope slot kind kind2 z last scope) names slots → l ≤ depth
         → Sim by f (flow_aim by f (Behind_so out (loop_scope slot kind kind2 z last scope)) q) 0 (spot by f
-        p [] (set slots (slot + 2) (Some (values.number kind z))) c) l (turn_of z (world by f names c)
+        p [] (slot_put (slot + 2) (Some (values.number kind z)) slots) c) l (turn_of z (world by f names c)
         l)
     unfolding follows
     turn_runs p q z names slots c l stands ag le =
         let inner = loop_scope slot kind kind2 z last scope in
-        let names2 = set names number (Some (values.number kind z)) in
-        let slots2 = set slots (slot + 2) (Some (values.number kind z)) in
+        let entry = variable name number (slot + 2) of in
+        let names2 = name_put number (Some (values.number kind z)) names in
+        let slots2 = slot_put (slot + 2) (Some (values.number kind z)) slots in
         let s = spot by f p [] slots2 c in
         let run = (body_does z).runs p q names2 slots2 c l stands (agree_turn z names slots ag) le in
-        let dropped = flow_holds by f (body (world by f names2 c) l) (λ x y h. (
-          h.0,
-          record {
-            names_are =
-                h.1.names_are;
-            slots_are = h.1.slots_are;
-            held = h.1.held.1;
-          },
-        )) run in
-        let also = subst (λ w. Sim by f (flow_aim by f (Behind_so out inner) q) 0 s l (body w l)) (sym
-        (meant_set by f number (Some (values.number kind z)) names c)) dropped in
-        leaves_run by f number count (body (with_value number (Some (values.number kind z)) (world by f
+        let also = subst (λ w. Sim by f (flow_aim by f (Inside_so out (number + 1) (number + count) (entry ∷
+        inner)) q) 0 s l (body w l)) (sym (meant_set by f number (Some (values.number kind z)) names c)) run in
+        let under = under_more by number (slot + 2) (number + 1) (slot + 3) inner (omega arith) (omega arith)
+        (in_loop z).under in
+        empties_run by f number count (body (with_value number (Some (values.number kind z)) (world by f
         names c)) l)
         (λ x y h. (
           h.0,
-          agree_emptied by f wide room number (slot + 2) number count inner x y (in_loop
-              z).under (omega arith) h.1,
+          ended_emptied by f get depth wide room number (slot + 2) number count (number + count) inner x y
+              (in_loop z).under (omega arith) (omega arith)
+              (ended_outer by f get depth wide room (number + 1) (slot + 3) number (number + 1) (number + count)
+              (entry ∷ []) inner x y (omega arith, tt) (omega arith, omega arith, under) (omega (arith, counts))
+              (omega arith) h.1),
         )) also
 
     -- one more turn, if there is one
@@ -224,17 +236,20 @@ module _ (by : Coding) (f : Frame) (get : ℕ → Option Draft) (placed : Placed
 
     agree_next : (z y : ℤ) (names : Names) (slots : Slots)
         → Agree_so (loop_scope slot kind kind2 z last scope) names slots
-        → Agree_so (loop_scope slot kind kind2 y last scope) names (set slots slot (Some (values.number kind
-        y)))
+        → Agree_so (loop_scope slot kind kind2 y last scope) names (slot_put slot (Some (values.number kind
+        y)) slots)
     agree_next z y names slots ag = record {
       names_are = ag.names_are;
-      slots_are = length-set slots slot (Some (values.number kind y)) ∙ ag.slots_are;
+      slots_are = length-set slots.own slot (Some (values.number kind y)) ∙ ag.slots_are;
+      only = ag.only;
+      rest = ag.rest;
+      since = ag.since;
       held = (
-        set_other slots (slot + 1) slot (Some (values.number kind y)) (λ e. absurd (omega (arith, e)))
+        set_other slots.own (slot + 1) slot (Some (values.number kind y)) (λ e. absurd (omega (arith, e)))
             ∙ ag.held.0,
         (
-          set_same slots slot (Some (values.number kind y)) (omega (arith, ag.slots_are, rooms)),
-          held_slot by scope slot names slots (Some (values.number kind y)) (slot_free by number slot slot
+          set_same slots.own slot (Some (values.number kind y)) (omega (arith, ag.slots_are, rooms)),
+          held_slot by scope slot names.own slots.own (Some (values.number kind y)) (slot_free by number slot slot
               scope scoped.under (omega arith)) ag.held.1.1,
         ),
       );
@@ -266,7 +281,8 @@ module _ (by : Coding) (f : Frame) (get : ℕ → Option Draft) (placed : Placed
             ((if b then for_turns turns turn_of (z +ℤ pos 1) last else pure meaning.falls) (world by f names
             c) k)
         by_test true e =
-            let new = set slots slot (Some (values.number kind (z +ℤ pos 1))) in
+            let new = slot_put slot (Some (values.number kind (z +ℤ pos 1))) slots in
+            let level = level_of by f names slots ag.rest in
             let s = spot by f m [] slots c in
             let goal = placed.labels m (instr.ForStep slot (slot + 1) p) here in
             again new (agree_next z (z +ℤ pos 1) names slots ag)
@@ -276,7 +292,7 @@ module _ (by : Coding) (f : Frame) (get : ℕ → Option Draft) (placed : Placed
             kind (z +ℤ pos 1))) (machine by f m [] slots c)) else goes (machines.onward (machine by f m
             [] slots c)))) e
             ∙ ap (λ x. reached s (jumps by.code p x)) (ran_set by f slot (Some (values.number kind (z +ℤ pos
-            1))) m [] slots c)
+            1))) m [] slots c level)
             ∙ ap (λ nx. reached s nx) (jump_goes by f p m [] new c goal.0))
             (leads_tick by.code s (instr.ForStep slot (slot + 1) p) k (placed.has m (plain (instr.ForStep
             slot (slot + 1) p)) here)))
@@ -288,6 +304,9 @@ module _ (by : Coding) (f : Frame) (get : ℕ → Option Draft) (placed : Placed
                 names_are = ag.names_are;
                 slots_are = ag.slots_are;
                 held = ag.held.1.1;
+                only = ag.only;
+                rest = ag.rest;
+                since = ag.since;
               },
             )
             (leads_spare by.code (omega arith) (leads_to by.code
@@ -341,7 +360,7 @@ module _ (by : Coding) (f : Frame) (get : ℕ → Option Draft) (placed : Placed
       s n r
   sim_kept scope slot m q (gives a w l) here next free within g =
       let x = g.follows in
-      let slots2 = set x.slots slot (Some (ran by x.b)) in
+      let slots2 = slot_put slot (Some (ran by x.b)) x.slots in
       record {
         follows = record {
           b = x.b;
@@ -350,10 +369,14 @@ module _ (by : Coding) (f : Frame) (get : ℕ → Option Draft) (placed : Placed
           c = x.c;
           is = x.is;
           in_world = x.in_world;
-          held = agree_kept scope slot x.b x.names x.slots free within x.held;
+          held = agree_kept by f wide room scope slot x.b x.names x.slots free (omega (
+            arith,
+            within,
+            x.held.slots_are,
+          )) x.held;
           leads = leads_to by.code
               (ap (λ nx. reached (spot by f m (x.b ∷ []) x.slots x.c) nx) (store_goes by f slot m x.b []
-              x.slots x.c (omega (arith, within, x.held.slots_are)))
+              x.slots x.c (level_of by f x.names x.slots x.held.rest) (omega (arith, within, x.held.slots_are)))
               ∙ ap (λ i. at (spot by f i [] slots2 x.c)) (sym next))
               (leads_more by.code (instr.Store slot) (placed.has m (plain (instr.Store slot)) here)
               x.leads);
@@ -371,12 +394,13 @@ module _ (by : Coding) (f : Frame) (get : ℕ → Option Draft) (placed : Placed
       body)) first last
 
   module _ (number slot : ℕ) (scope : List (Entry by)) (scoped : Scoped by number slot scope) (fits : number
-      + 1 ≤ wide) (rooms : slot + 3 ≤ room)
+      + 1 ≤ wide.count) (rooms : slot + 3 ≤ room)
       (name : Bytes) (of : Option ClosedType) (out : Bool) (write : Written) (body : Action Flow) (count :
-      ℕ)
+      ℕ) (counts : 1 ≤ count)
       (does_so : (kind kind2 : IntKind) (z last : ℤ) → Does by f get depth wide room (variable name number
       (slot + 2) of ∷ loop_scope slot kind kind2 z last scope) write body
-      (Behind_so out (variable name number (slot + 2) of ∷ loop_scope slot kind kind2 z last scope))) where
+      (Inside_so out (number + 1) (number + count) (variable name number (slot + 2) of ∷ loop_scope slot kind
+      kind2 z last scope))) where
     range_runs : (kind kind2 : IntKind) (first last : ℤ) → same_kind kind kind2 ≡ true → (p q : ℕ)
         → InTurns get out slot write p q
         → (names : Names) (slots : Slots) (c : Common by) (l : ℕ)
@@ -406,6 +430,9 @@ module _ (by : Coding) (f : Frame) (get : ℕ → Option Draft) (placed : Placed
                 names_are = ag.names_are;
                 slots_are = ag.slots_are;
                 held = ag.held.1.1;
+                only = ag.only;
+                rest = ag.rest;
+                since = ag.since;
               },
             )
             (leads_spare by.code (omega arith) (leads_to by.code
@@ -416,7 +443,7 @@ module _ (by : Coding) (f : Frame) (get : ℕ → Option Draft) (placed : Placed
             slot (slot + 1) q)) it.leave))))
         by_test false e =
             let s = spot by f p [] slots c in
-            for_run number slot scope scoped fits rooms name of kind kind2 last same out write body count (λ
+            for_run number slot scope scoped fits rooms name of kind kind2 last same out write body count counts (λ
             z. does_so kind kind2 z last)
             (suc depth) p q first it names slots c ag le (omega (arith, le))
             (leads_to by.code
@@ -451,16 +478,17 @@ module _ (by : Coding) (f : Frame) (get : ℕ → Option Draft) (placed : Placed
     bounds_run a b p q it names slots c l ag le =
         subst₂ (λ x y. Sim by f (flow_aim by f (Behind_so false scope) q) 0 (spot by f p [] slots c) (suc l)
         (both_numbers x y (range_of number count body) (world by f names c) l))
-        (sym (number_in_to (λ (w : Word by). w.bytes) a)) (sym (number_in_to (λ (w : Word by). w.bytes) b))
+        (sym (number_in_to (as_meant by) a)) (sym (number_in_to (as_meant by) b))
         (ranges_run a b p q it names slots c l ag le (number_in a) (number_in b) refl refl)
 
   pub for_does : {wa wb : Written} {ma mb : Action Value} (number slot : ℕ) (scope : List (Entry by))
-      → Scoped by number slot scope → number + 1 ≤ wide → slot + 3 ≤ room
+      → Scoped by number slot scope → number + 1 ≤ wide.count → slot + 3 ≤ room
       → (name : Bytes) (of : Option ClosedType) (out : Bool) (write : Written) (body : Action Flow) (count :
-      ℕ)
+      ℕ) → 1 ≤ count
       → ((kind kind2 : IntKind) (z last : ℤ) → Does by f get depth wide room (variable name number (slot +
       2) of ∷ loop_scope slot kind kind2 z last scope) write body
-      (Behind_so out (variable name number (slot + 2) of ∷ loop_scope slot kind kind2 z last scope)))
+      (Inside_so out (number + 1) (number + count) (variable name number (slot + 2) of ∷ loop_scope slot kind
+      kind2 z last scope)))
       → Whole by f get depth wide room scope wa ma
       → ((a : Both by) → Whole by f get depth wide room (kept slot a ∷ scope) wb mb)
       → Does by f get depth wide room scope (wa >> does (instr.Store slot) >> wb >> does (instr.Store (slot
@@ -468,7 +496,7 @@ module _ (by : Coding) (f : Frame) (get : ℕ → Option Draft) (placed : Placed
       (ma >>= λ a. mb >>= λ b. tick (ranges (suc depth) (λ kind z. within number count (ticks.◌>>◌ (holds
       number (values.number kind z)) body)) a b))
       (Behind_so false scope)
-  for_does {wa} {wb} {ma} {mb} number slot scope scoped fits rooms name of out write body count body_does a
+  for_does {wa} {wb} {ma} {mb} number slot scope scoped fits rooms name of out write body count counts body_does a
       b = record {
         runs = λ p q names slots c n stands ag le.
             let bounds = λ (x y : Value). ranges (suc depth) (λ kind z. within number count (ticks.◌>>◌ (holds
@@ -502,6 +530,6 @@ module _ (by : Coding) (f : Frame) (get : ℕ → Option Draft) (placed : Placed
             ((b x).runs r2.middle r3.middle names slots c m r3.first ag1 (le_trans few le))) (λ y names slots c
             k ag2 fewer.
             ticks_at by f (bounds (meant by x) (meant by y)) r4.middle [] names slots c k (λ l e.
-            bounds_run number slot scope scoped fits rooms name of out write body count body_does x y r4.middle
+            bounds_run number slot scope scoped fits rooms name of out write body count counts body_does x y r4.middle
             q it names slots c l ag2 (omega (arith, le, few, fewer, e)))));
       }

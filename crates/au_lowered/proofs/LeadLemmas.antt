@@ -5,7 +5,7 @@ use Rattle.au_low.specs.declared.endings.Ending.TheVariants.{Steps}
 use Rattle.au_low.specs.declared.instructions.Instr.{Instr}
 use Rattle.au_low.specs.Instructions.{act}
 use Rattle.au_low.specs.Machines.{Next, goes, writes, waits, exits, aborts, stuck}
-use Rattle.au_low.specs.Runs.{Outcome, exec, next, next_if, fetched, on_next}
+use Rattle.au_low.specs.Runs.{Outcome, exec, next, next_if, fetched, heard, on_next, after, byte_taken, rest_of}
 use Rattle.au_meaning.specs.Worlds.{World}
 use Rattle.au_lowered.specs.Sides.{Coding, Spot, told}
 use Rattle.au_lowered.specs.Runs.{Reach, at, ended, lost, reached, run_at, Seen, Leads, CutOff}
@@ -38,6 +38,31 @@ module _ (code : Code) where
       seen_same (reached s (act code i s.machine)) k (made + 1) (made + 1) _ _ refl
       (ap (λ nx. on_next code nx (run_at s made) (exec code k)) e)
       (seen_next (act code i s.machine) s k made)
+
+  -- an instruction that waits for a byte, when the next one of the input has come
+  seen_after : (nx : Next) (s : Spot) (k made : ℕ)
+      → Seen code (reached s nx) k (made + 1) (after nx (run_at s made) (exec code k))
+  seen_after (goes m) s k made = refl
+  seen_after (writes bytes m) s k made = refl
+  seen_after waits s k made = tt
+  seen_after (exits success m) s k made = refl
+  seen_after (aborts fault m) s k made = refl
+  seen_after stuck s k made = tt
+
+  -- where a byte of the input was taken
+  abbrev pub byte_later : Spot → Spot
+  byte_later s = record s { left = rest_of s.left }
+
+  seen_heard : (s : Spot) (i : Instr) (k made : ℕ) → fetched code s.machine ≡ Some i → act code i s.machine ≡ waits
+      → Seen code (reached (byte_later s) (heard code (byte_taken s.left) s.machine)) k (made + 1) (exec code (suc k)
+      (run_at s made))
+  unfolding exec
+  seen_heard s i k made is wait =
+      let nx = heard code (byte_taken s.left) s.machine in
+      let e : next code s.machine ≡ waits = ap (λ o. next_if code o s.machine) is ∙ wait in
+      seen_same (reached (byte_later s) nx) k (made + 1) (made + 1) _ _ refl
+      (ap (λ n. on_next code n (run_at s made) (exec code k)) e)
+      (seen_after nx (byte_later s) k made)
 
   -- nothing is run
   pub leads_none : (s : Spot) (n : ℕ) → Leads code s n (at s) n 0
@@ -87,6 +112,19 @@ module _ (code : Code) where
         let e : 1 + k ≡ suc k = omega arith in
         seen_same (reached s (act code i s.machine)) k (made + 1) (made + 1) _ _ refl
         (ap (λ j. exec code j (run_at s made)) e) (seen_one s i k made is);
+  }
+
+  -- a tick and an instruction that waits for a byte of the input
+  pub leads_heard : (s : Spot) (i : Instr) (n : ℕ) → fetched code s.machine ≡ Some i → act code i s.machine ≡ waits
+      → Leads code s (suc n) (reached (byte_later s) (heard code (byte_taken s.left) s.machine)) n 7
+  leads_heard s i n is wait = record {
+    steps = 1;
+    least = omega arith;
+    most = omega arith;
+    by = λ k made.
+        let e : 1 + k ≡ suc k = omega arith in
+        seen_same (reached (byte_later s) (heard code (byte_taken s.left) s.machine)) k (made + 1) (made + 1) _ _ refl
+        (ap (λ j. exec code j (run_at s made)) e) (seen_heard s i k made is wait);
   }
 
   -- an instruction without a tick, which is one of those to spare

@@ -11,8 +11,9 @@ use Rattle.au_meaning.specs.Statements as meaning
 use Rattle.au_meaning.specs.Statements.{Flow, and_then, while_turns}
 use Rattle.au_meaning.specs.Ticks.{Action, pure, tick, ◌>>=◌}
 use Rattle.au_meaning.specs.Worlds.{Value}
-use Rattle.au_lowered.specs.Scopes.{Entry, Agree}
-use Rattle.au_lowered.specs.Sides.{Coding, Names, Slots, Common, Frame, spot, world, meant}
+use Rattle.au_lowered.specs.Scopes.{Entry}
+use Rattle.au_lowered.specs.Frames.{Wide, Agree, Frame, spot, world}
+use Rattle.au_lowered.specs.Sides.{Coding, Names, Slots, Common, meant}
 use Rattle.au_lowered.specs.Runs.{Sim}
 use Rattle.au_lowered.proofs.LeadLemmas.{leads_spare}
 use Rattle.au_lowered.proofs.SimLemmas.{sim_on, sim_spare, sim_given, sim_bind}
@@ -22,8 +23,8 @@ use Rattle.au_lowered.specs.Premises.{Placed}
 use Rattle.au_lowered.specs.Flows.{falls, flow_aim, Behind, Does, Whole}
 use Rattle.au_lowered.proofs.FlowLemmas.{flow_holds, then_runs, jump_runs}
 
-module _ (by : Coding) (f : Frame) (get : ℕ → Option Draft) (placed : Placed by f.function get) (depth wide
-    room : ℕ) where
+module _ (by : Coding) (f : Frame by) (get : ℕ → Option Draft) (placed : Placed by f.function get)
+    (depth : ℕ) (wide : Wide) (room : ℕ) where
   parts : PartsStandIn get
   parts = parts_stand get
 
@@ -58,7 +59,7 @@ module _ (by : Coding) (f : Frame) (get : ℕ → Option Draft) (placed : Placed
         let two = parts.of_when wb row.middle q row.second in
         let goal = placed.labels row.middle (instr.JumpNot q) two.test in
         let here : Stands get nothing q q = record { has = tt; ends = omega arith } in
-        sim_bind by f (meant by) (λ v names slots. Agree by wide room scope names slots) (λ v slots c. spot
+        sim_bind by f (meant by) (λ v names slots. Agree by f wide room scope names slots) (λ v slots c. spot
         by f row.middle (v ∷ []) slots c)
         (mt (world by f names c) n) (λ v. tick (chosen mb m v)) (test.runs p row.middle names slots c n
         row.first ag le) (λ v names slots c k ag few.
@@ -80,7 +81,7 @@ module _ (by : Coding) (f : Frame) (get : ℕ → Option Draft) (placed : Placed
         let row = parts.of_row wt (either out wb wr) p q stands in
         let two = parts.of_branches out wb wr row.middle q row.second in
         let goal = placed.labels row.middle (instr.JumpNot two.other) two.test in
-        sim_bind by f (meant by) (λ v names slots. Agree by wide room scope names slots) (λ v slots c. spot
+        sim_bind by f (meant by) (λ v names slots. Agree by f wide room scope names slots) (λ v slots c. spot
         by f row.middle (v ∷ []) slots c)
         (mt (world by f names c) n) (λ v. tick (chosen mb m v)) (test.runs p row.middle names slots c n
         row.first ag le) (λ v names slots c k ag few.
@@ -105,7 +106,7 @@ module _ (by : Coding) (f : Frame) (get : ℕ → Option Draft) (placed : Placed
       by))
       → Whole by f get depth wide room scope wt mt → Does_so scope wb mb (Behind_so out scope)
       → (turns p q : ℕ) → InLoop get out wt wb p q → (names : Names) (slots : Slots) (c : Common by) (n : ℕ)
-      → Agree by wide room scope names slots → n ≤ depth → n < turns
+      → Agree by f wide room scope names slots → n ≤ depth → n < turns
       → Sim by f (flow_aim by f (Behind_so false scope) q) 0 (spot by f p [] slots c) n (while_turns turns
       mt mb (world by f names c) n)
   unfolding while_turns
@@ -115,7 +116,7 @@ module _ (by : Coding) (f : Frame) (get : ℕ → Option Draft) (placed : Placed
       let again = while_turns turns mt mb in
       let turn : Action Flow = mb >>= and_then again in
       let goal = placed.labels lp.middle (instr.JumpNot q) lp.leave in
-      sim_bind by f (meant by) (λ v names slots. Agree by wide room scope names slots) (λ v slots c. spot by
+      sim_bind by f (meant by) (λ v names slots. Agree by f wide room scope names slots) (λ v slots c. spot by
       f lp.middle (v ∷ []) slots c)
       (mt (world by f names c) n) (λ v. tick (chosen turn (pure meaning.falls) v)) (test.runs p lp.middle
       names slots c n lp.first ag le) (λ v names slots c k ag few.

@@ -8,16 +8,16 @@ use Rattle.au_ints.specs.declared.operations.Order.{Order}
 use Rattle.au_ints.specs.declared.operations.Order.TheVariants as order
 use Rattle.au_ints.specs.Operations.{trapped, converted}
 use Rattle.au_effects.specs.Answers as answer
-use Rattle.au_effects.specs.Answers.{Result, fault, no_rule}
+use Rattle.au_effects.specs.Answers.{Result}
 use Rattle.au_effects.specs.Numbers.{number_in, if_of, number_of, truth_in, text_in, on_both, number_or_fault}
 use Rattle.au_effects.specs.Numbers.{computed, wrapped_around, compared_truths, compared, turned, negated}
 use Rattle.au_effects.specs.Numbers.{at_kind, converted_from, converted_value}
 use Rattle.au_effects.specs.Parts.{along, nth_field, field, part, with_nth, with_field, with_part}
 use Rattle.au_effects.specs.Values.{Value, Fields, unit, truth, number, text, made, reference, box, buffer}
 use Rattle.au_effects.specs.Values.{terminal, root, no_fields, field_then, listed, fields_of, optional}
-use Rattle.au_lowered.specs.Maps.{value_to, fields_to, result_to}
+use Rattle.au_lowered.specs.Maps.{Change, value_to, fields_to, result_to}
 
-module _ {T S : Type 0} (f : T → S) where
+module _ {T S : Type 0} (f : Change T S) where
   -- ---- fields
 
   pub nth_to : (index : ℕ) (fields : Fields T)
@@ -121,7 +121,7 @@ module _ {T S : Type 0} (f : T → S) where
   truth_in_to (terminal birth) = refl
   truth_in_to (root birth) = refl
 
-  pub text_in_to : (value : Value T) → text_in (value_to f value) ≡ option_map f (text_in value)
+  pub text_in_to : (value : Value T) → text_in (value_to f value) ≡ option_map f.text (text_in value)
   text_in_to unit = refl
   text_in_to (truth b) = refl
   text_in_to (number kind z) = refl

@@ -21,12 +21,11 @@ use Rattle.au_lowered.specs.Drafts.{Draft, plain, pushes_text, makes_case, ships
 use Rattle.au_lowered.specs.Laws.{LabelsBefore, EachBefore, labels_in}
 use Rattle.au_lowered.specs.Laws as laws
 use Rattle.au_lowered.specs.Programs as programs
-use Rattle.au_lowered.specs.Programs.{body_of, slots_of, bodies, texts_named, types_named, entry_types}
+use Rattle.au_lowered.specs.Programs.{body_of, bodies, texts_named, types_named, entry_types}
 use Rattle.au_lowered.specs.Programs.{texts_in, types_in, text_number, type_number, function_code, lowered}
 use Rattle.au_lowered.proofs.ReturnLemmas.{bodies_keep_labels}
 use Rattle.au_meaning.specs.Views.{Function}
 use Rattle.au_syntax.specs.Plain.{Bytes}
-use Rattle.au_lowered.specs.Sides.{Coding}
 use Rattle.au_lowered.specs.Premises.{Placed, EachIn, numbered}
 use Rattle.au_lowered.specs.FollowPrograms.{HasProgram, coding, GoodFunction, GoodProgram}
 
@@ -182,15 +181,12 @@ module _ {T C : Type 0} where
       (has_back same (types_named (body_of g)) (types_named (bodies rest)) of (type_of_all rest i f of e h))
 
   module _ (told : ClosedType → LowType) (functions : List (Function ℕ T C)) where
-    by : Coding
-    by = coding told functions
-
-    numbered_same : (draft : Draft) → programs.numbered (texts_in functions) (types_in functions) draft
-        ≡ numbered (coding told functions) draft
-    numbered_same (plain i) = refl
-    numbered_same (pushes_text text) = refl
-    numbered_same (makes_case of tag order home) = refl
-    numbered_same (ships_birth call of order) = refl
+    numbered_same : (slot : ℕ → ℕ) (draft : Draft) → programs.numbered (texts_in functions) (types_in functions) draft
+        ≡ numbered (coding told functions slot) draft
+    numbered_same slot (plain i) = refl
+    numbered_same slot (pushes_text text) = refl
+    numbered_same slot (makes_case of tag order home) = refl
+    numbered_same slot (ships_birth call of order) = refl
 
     function_there : (i : ℕ) (f : Function ℕ T C) → slice_get functions i ≡ Some f
         → slice_get (lowered told functions).functions i
@@ -213,15 +209,15 @@ module _ {T C : Type 0} where
         slice_get-map told (types_in functions) (type_number (types_in functions) of)
         ∙ ap (λ o. option_map told o) there
 
-    pub placed_in : (i : ℕ) (f : Function ℕ T C) → slice_get functions i ≡ Some f
-        → GoodFunction told functions f
-        → Placed (coding told functions) i (λ p. slice_get (body_of f) p)
-    placed_in i f e good = record {
+    pub placed_in : (slot : ℕ → ℕ) (i : ℕ) (f : Function ℕ T C) → slice_get functions i ≡ Some f
+        → GoodFunction told functions slot f
+        → Placed (coding told functions slot) i (λ p. slice_get (body_of f) p)
+    placed_in slot i f e good = record {
       has = λ p draft h.
           ap (λ all. slice_get all p) (code_is i f e)
           ∙ slice_get-map (programs.numbered (texts_in functions) (types_in functions)) (body_of f) p
           ∙ ap (λ o. option_map (programs.numbered (texts_in functions) (types_in functions)) o) h
-          ∙ ap (λ x. Some x) (numbered_same draft);
+          ∙ ap (λ x. Some x) (numbered_same slot draft);
       labels = λ p x h.
           let many : length (body_of f) ≡ length (instructions (slice_get (lowered told functions).functions
           i)) =
@@ -252,14 +248,15 @@ module _ {T C : Type 0} where
     }
 
     -- a program has its functions in the code that it is lowered to
-    pub has_program : GoodProgram told functions → HasProgram (coding told functions) (λ i. slice_get
-        functions i)
+    pub has_program : (good : GoodProgram told functions) → HasProgram (coding told functions good.slot) (λ i.
+        slice_get functions i)
     has_program good i f e = record {
       low_function = function_code (texts_in functions) (types_in functions) f;
       there = function_there i f e;
       params = refl;
       slots = refl;
-      placed = placed_in i f e (good.each i f e);
+      placed = placed_in good.slot i f e (good.each i f e);
       view = (good.each i f e).view;
       whole = (good.each i f e).whole;
+      homes = (good.each i f e).homes;
     }

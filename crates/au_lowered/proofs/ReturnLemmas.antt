@@ -6,7 +6,7 @@ use Rattle.au_base.proofs.BoolLemmas.{first_holds}
 use Rattle.au_typing.specs.Returns.{returns, block_returns, branches_return, arms_return}
 use Rattle.au_low.specs.declared.instructions.Instr.TheVariants as instr
 use Rattle.au_meaning.specs.Expressions.{note_of}
-use Rattle.au_meaning.specs.Names.{Scope, Variable, variable_of, with_parameters}
+use Rattle.au_meaning.specs.Names.{Scope, Variable, variable_of, with_parameters, mode_of}
 use Rattle.au_meaning.specs.Views.{View}
 use Rattle.au_syntax.specs.declared.expressions.BorrowMode.{BorrowMode}
 use Rattle.au_syntax.specs.Plain.{Bytes}
@@ -17,7 +17,7 @@ use Rattle.au_syntax.specs.Statements.{no_statements, statements, no_branches, b
 use Rattle.au_lowered.specs.Drafts.{plain, Written, nothing, branch}
 use Rattle.au_lowered.specs.Laws.{Fits, LabelsBefore, Tidy, BlockTidy, TestsTidy, ArmsTidy, BodiesKeepLabels}
 use Rattle.au_lowered.specs.Programs.{body_of}
-use Rattle.au_lowered.specs.Slots.{mode_of, tag_in}
+use Rattle.au_meaning.specs.Statements.{tag_told}
 use Rattle.au_lowered.specs.Statements.{ArmsWritten, arm_then, lends, is_last, statement, block, tests_of, arms_of}
 use Rattle.au_lowered.proofs.FitLemmas.{fits_both, fits_last, fits_one, fits_given, fits_returning, ArmsFit}
 use Rattle.au_lowered.proofs.FitLemmas.{arms_end, arms_returning, fits_cases}
@@ -111,7 +111,7 @@ module _ {T C : Type 0} (see : View ℕ T C) where
     returning_arms around slot scope note no_arms e h = arms_end
     returning_arms around slot scope note (arms at name binds body rest) e h =
         let each = and_parts (block_returns body) (arms_return rest) e in
-        returning_arm (block_returns body || is_last rest) (tag_in see note name.name)
+        returning_arm (block_returns body || is_last rest) (tag_told see note name.name)
         (or_left (block_returns body) (is_last rest) each.0)
         (returning_block around _ _ body each.0 h.0)
         (returning_arms around slot scope note rest each.1 h.1)

@@ -1,7 +1,6 @@
 -- The rows of expressions: each does what its clause of the meaning does, where its parts do.
 use Rattle.std.proofs.Common.{◌≡◌, inl, inr, ℕ, suc, ◌+◌, Bool, true, false, List, [], ◌∷◌, Option, Some}
 use Rattle.std.proofs.Common.{None, refl, sym, ap, subst, subst₂, ◌∙◌, arith, ℤ, le_trans}
-use Rattle.std.proofs.lemmas.List.{length-set}
 use Rattle.au_base.specs.declared.kinds.IntKind.{IntKind}
 use Rattle.au_ints.specs.Ranges.{is_of_kind}
 use Rattle.au_ints.specs.declared.operations.IntOp.{IntOp}
@@ -11,7 +10,7 @@ use Rattle.au_effects.specs.Values as values
 use Rattle.au_low.specs.declared.instructions.Instr.{Instr}
 use Rattle.au_low.specs.declared.instructions.Instr.TheVariants as instr
 use Rattle.au_low.specs.Instructions as low
-use Rattle.au_low.specs.Instructions.{act, instructions}
+use Rattle.au_low.specs.Instructions.{act}
 use Rattle.au_low.specs.Machines as machines
 use Rattle.au_low.specs.Machines.{goes, pushes}
 use Rattle.au_lowered.specs.Drafts.{Draft, plain, pushes_text, Written, ◌>>◌, one, does, given}
@@ -20,15 +19,15 @@ use Rattle.au_lowered.specs.Standing.{PartsStandIn}
 use Rattle.au_lowered.proofs.StandLemmas.{parts_stand}
 use Rattle.au_meaning.specs.Acts.{looks}
 use Rattle.au_meaning.specs.Expressions as meaning
-use Rattle.au_meaning.specs.Expressions.{literal, chosen, Operation, computes, compares, is_and, is_or}
-use Rattle.au_meaning.specs.Expressions.{kind_in, compared_kind}
+use Rattle.au_meaning.specs.Expressions.{literal}
 use Rattle.au_meaning.specs.Names.{variable_of, path_numbers}
 use Rattle.au_meaning.specs.Ticks.{Action, pure, stuck, tick, ticked, needing, comes, ◌>>=◌}
 use Rattle.au_meaning.specs.Views.{View}
 use Rattle.au_meaning.specs.Worlds.{Value, World}
 use Rattle.au_syntax.specs.Plain.{Bytes}
-use Rattle.au_lowered.specs.Scopes.{Entry, numbers_in, slots_in, Agree, Distinct}
-use Rattle.au_lowered.specs.Sides.{Coding, Word, Both, Names, Slots, Common, Frame, machine, spot, world, meant}
+use Rattle.au_lowered.specs.Scopes.{Entry, numbers_in, slots_in, Distinct}
+use Rattle.au_lowered.specs.Frames.{Wide, Agree, Frame, machine, spot, world}
+use Rattle.au_lowered.specs.Sides.{as_meant, as_ran, Coding, Word, Both, Names, Slots, Common, meant}
 use Rattle.au_lowered.specs.Runs.{Sim}
 use Rattle.au_lowered.proofs.FrameLemmas.{Found, Means, means}
 use Rattle.au_lowered.proofs.MapLemmas.{computed_to, compared_to, negated_to}
@@ -36,14 +35,15 @@ use Rattle.au_lowered.proofs.SimLemmas.{sim_spare, sim_stuck, sim_bind, sim_bind
 use Rattle.au_lowered.proofs.StepLemmas.{ticks_at, push_runs, comes_runs, look_runs, move_runs}
 use Rattle.au_lowered.specs.Premises.{HasLiteral, numbered, Placed}
 use Rattle.au_lowered.specs.Rows.{value_aim, Gives, OnOne, OnTwo}
+use Rattle.au_lowered.proofs.LevelLemmas.{level_of, agree_put}
 
-module _ (by : Coding) (f : Frame) (get : ℕ → Option Draft) (placed : Placed by f.function get) (depth wide
-    room : ℕ) (scope : List (Entry by)) where
+module _ (by : Coding) (f : Frame by) (get : ℕ → Option Draft) (placed : Placed by f.function get)
+    (depth : ℕ) (wide : Wide) (room : ℕ) (scope : List (Entry by)) where
   parts : PartsStandIn get
   parts = parts_stand get
 
   abbrev pub Held_so : Names → Slots → Type 0
-  Held_so names slots = Agree by wide room scope names slots
+  Held_so names slots = Agree by f wide room scope names slots
 
   -- ---- constants
 
@@ -136,7 +136,7 @@ module _ (by : Coding) (f : Frame) (get : ℕ → Option Draft) (placed : Placed
 
   -- ---- variables
 
-  variable_runs : (free : Bool) (name : Bytes) (found : Found by scope name) → Distinct by scope
+  pub variable_runs : (free : Bool) (name : Bytes) (found : Found by scope name) → Distinct by scope
       → Gives by f get depth wide room scope
       (code.taken free (record { name = found.own; number = found.slot; of = found.of }))
       (tick (meaning.copies free found.number))
@@ -146,7 +146,8 @@ module _ (by : Coding) (f : Frame) (get : ℕ → Option Draft) (placed : Placed
         sim_spare by f (ticked (meaning.copies true found.number) (world by f names c) n) (omega arith)
         (ticks_at by f (meaning.copies true found.number) p ops names slots c n (λ l e.
         look_runs by f Held_so found.number found.slot [] p q l ops names slots c (placed.has p (plain
-        (instr.Look found.slot [])) here.here) here.ends ag (found.look names slots ag.held)));
+        (instr.Look found.slot [])) here.here) here.ends ag (level_of by f names slots ag.rest) (found.look
+        names.own slots.own ag.held)));
   }
   variable_runs false name found d = record {
     runs = λ p q ops names slots c n stands ag le.
@@ -155,11 +156,8 @@ module _ (by : Coding) (f : Frame) (get : ℕ → Option Draft) (placed : Placed
         (ticks_at by f (meaning.copies false found.number) p ops names slots c n (λ l e.
         move_runs by f Held_so found.number found.slot p q l ops names slots c (placed.has p (plain
         (instr.Move found.slot)) here.here) here.ends
-        (record {
-          names_are = length-set names found.number None ∙ ag.names_are;
-          slots_are = length-set slots found.slot None ∙ ag.slots_are;
-          held = found.put names slots None d ag.held;
-        }) (found.look names slots ag.held)));
+        (agree_put by f wide room scope name found None names slots d ag) (level_of by f names slots ag.rest)
+        (found.look names.own slots.own ag.held)));
   }
 
   -- a name: a variable, or a constant
@@ -204,7 +202,8 @@ module _ (by : Coding) (f : Frame) (get : ℕ → Option Draft) (placed : Placed
             sim_spare by f (ticked (looks found.number path) (world by f names c) n) (omega arith)
             (ticks_at by f (looks found.number path) p ops names slots c n (λ l e.
             look_runs by f Held_so found.number found.slot path p q l ops names slots c (placed.has p (plain
-            (instr.Look found.slot path)) here.here) here.ends ag (found.look names slots ag.held)));
+            (instr.Look found.slot path)) here.here) here.ends ag (level_of by f names slots ag.rest)
+            (found.look names.own slots.own ag.held)));
       }
 
       by_what : Means by scope name → Gives by f get depth wide room scope
@@ -271,11 +270,11 @@ module _ (by : Coding) (f : Frame) (get : ℕ → Option Draft) (placed : Placed
         let here = parts.of_one (plain instr.Not) p q stands in
         subst (λ r. Sim by f (value_aim by f get depth wide room scope q ops) 0 (spot by f p (x ∷ ops) slots
         c) (suc l) (comes r (world by f names c) l))
-        (sym (negated_to (λ (w : Word by). w.bytes) x))
+        (sym (negated_to (as_meant by) x))
         (sim_spare by f (comes _ (world by f names c) l) (omega arith)
         (comes_runs by f Held_so instr.Not p q l (negated x) ops (x ∷ ops) names slots c (placed.has p
         (plain instr.Not) here.here) here.ends ag
-        (ap (λ r. low.comes r (machine by f p ops slots c)) (negated_to (λ (w : Word by). by.text w.bytes)
+        (ap (λ r. low.comes r (machine by f p ops slots c)) (negated_to (as_ran by)
         x))));
   }
 
@@ -289,11 +288,11 @@ module _ (by : Coding) (f : Frame) (get : ℕ → Option Draft) (placed : Placed
         let here = parts.of_one (plain (instr.Arith op k)) p q stands in
         subst (λ r. Sim by f (value_aim by f get depth wide room scope q ops) 6 (spot by f p (y ∷ x ∷ ops)
         slots c) (suc l) (comes r (world by f names c) l))
-        (sym (computed_to (λ (w : Word by). w.bytes) op k x y))
+        (sym (computed_to (as_meant by) op k x y))
         (sim_spare by f (comes _ (world by f names c) l) (omega arith)
         (comes_runs by f Held_so (instr.Arith op k) p q l (computed op k x y) ops (y ∷ x ∷ ops) names slots
         c (placed.has p (plain (instr.Arith op k)) here.here) here.ends ag
-        (ap (λ r. low.comes r (machine by f p ops slots c)) (computed_to (λ (w : Word by). by.text w.bytes)
+        (ap (λ r. low.comes r (machine by f p ops slots c)) (computed_to (as_ran by)
         op k x y))));
   }
 
@@ -307,10 +306,10 @@ module _ (by : Coding) (f : Frame) (get : ℕ → Option Draft) (placed : Placed
         let here = parts.of_one (plain (instr.Compare op k)) p q stands in
         subst (λ r. Sim by f (value_aim by f get depth wide room scope q ops) 6 (spot by f p (y ∷ x ∷ ops)
         slots c) (suc l) (comes r (world by f names c) l))
-        (sym (compared_to (λ (w : Word by). w.bytes) op k x y))
+        (sym (compared_to (as_meant by) op k x y))
         (sim_spare by f (comes _ (world by f names c) l) (omega arith)
         (comes_runs by f Held_so (instr.Compare op k) p q l (compared op k x y) ops (y ∷ x ∷ ops) names
         slots c (placed.has p (plain (instr.Compare op k)) here.here) here.ends ag
-        (ap (λ r. low.comes r (machine by f p ops slots c)) (compared_to (λ (w : Word by). by.text w.bytes)
+        (ap (λ r. low.comes r (machine by f p ops slots c)) (compared_to (as_ran by)
         op k x y))));
   }

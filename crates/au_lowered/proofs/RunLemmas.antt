@@ -10,12 +10,12 @@ use Rattle.au_type_texts.proofs.SameLemmas.{same_self}
 use Rattle.au_effects.specs.Answers as answer
 use Rattle.au_effects.specs.Values as values
 use Rattle.au_effects.specs.Worlds as effects
-use Rattle.au_effects.specs.Worlds.{Deed, nothing, bears}
+use Rattle.au_effects.specs.Worlds.{nothing, bears}
 use Rattle.au_low.specs.declared.code.LowType.{LowType}
 use Rattle.au_low.specs.declared.endings.Ending.TheVariants.{Abort}
 use Rattle.au_low.specs.Machines.{Low, new_slots}
 use Rattle.au_low.specs.Runs as runs
-use Rattle.au_low.specs.Runs.{abort_kind, exec, low_run, run_from, first, entry_begins, first_machine, root_slots}
+use Rattle.au_low.specs.Runs.{abort_kind, exec, low_run, run_from, entry_begins, first_machine, root_slots}
 use Rattle.au_lowered.specs.Agreeing.{event_numbered, fault_numbered, ending_numbered}
 use Rattle.au_lowered.specs.Programs.{slots_of, texts_in, types_in, type_number, lowered, takes_root, bodies}
 use Rattle.au_lowered.specs.Programs.{types_named, function_code}
@@ -24,11 +24,12 @@ use Rattle.au_meaning.specs.Meanings.{call_at, seen, first_world, root_born, beg
 use Rattle.au_meaning.specs.Ticks.{Action, follows}
 use Rattle.au_meaning.specs.Views.{Field, Function}
 use Rattle.au_meaning.specs.Worlds as source
-use Rattle.au_meaning.specs.Worlds.{Value, World, Outcome, exit, abort, running, stuck}
+use Rattle.au_meaning.specs.Worlds.{Value, Outcome, exit, abort, running, stuck}
 use Rattle.au_graphs.specs.Reached.{adds}
 use Rattle.au_graphs.proofs.HasLemmas.{adds_more}
 use Rattle.au_lowered.specs.Maps.{deed_to, fault_to}
-use Rattle.au_lowered.specs.Sides.{Both, Common, spot, all_meant}
+use Rattle.au_lowered.specs.Sides.{Both, Common, all_meant, Slots}
+use Rattle.au_lowered.specs.Frames.{spot}
 use Rattle.au_lowered.specs.Runs.{run_at}
 use Rattle.au_lowered.specs.FollowPrograms.{coding, EntryTakes, GoodProgram}
 use Rattle.au_lowered.specs.FollowLaws.{Follows}
@@ -59,47 +60,52 @@ deeds_same : (types : List ClosedType) (deeds : List source.Event) → map (deed
 deeds_same types [] = refl
 deeds_same types (deed ∷ rest) = ap₂ (λ d ds. d ∷ ds) (deed_same types deed) (deeds_same types rest)
 
-module _ {T C : Type 0} (told_of : ClosedType → LowType) (functions : List (Function ℕ T C)) where
-  ending_same : (end : source.Ending) → ending_of (coding told_of functions) end
-      ≡ ending_numbered (texts_in functions) end
-  ending_same (exit success) = refl
-  ending_same (abort why) = ap (λ f. Abort (abort_kind f)) (fault_same (texts_in functions) why)
-  ending_same running = refl
-  ending_same stuck = refl
+module _ {T C : Type 0} (told_of : ClosedType → LowType) (functions : List (Function ℕ T C)) (slot : ℕ → ℕ)
+  where
+    ending_same : (end : source.Ending) → ending_of (coding told_of functions slot) end
+        ≡ ending_numbered (texts_in functions) end
+    ending_same (exit success) = refl
+    ending_same (abort why) = ap (λ f. Abort (abort_kind f)) (fault_same (texts_in functions) why)
+    ending_same running = refl
+    ending_same stuck = refl
 
-  -- what a run shows that begins at a place
-  shown_follows : (input : List ℕ) (s : _) (meant : Outcome)
-      → ((limit : ℕ) → low_run true (lowered told_of functions) input limit
-      ≡ exec (lowered told_of functions) limit (run_at s 0))
-      → Shows (coding told_of functions) s meant → Follows told_of functions input meant
-  shown_follows input s meant is shows =
-      let now = is shows.steps ∙ shows.here in
-      record {
-        steps = shows.steps;
-        made = ap (λ (o : runs.Outcome). o.made) now;
-        agrees = record {
-          ending = ap (λ (o : runs.Outcome). o.ending) now ∙ ending_same meant.ending;
-          output = ap (λ (o : runs.Outcome). o.output) now;
-          left = ap (λ (o : runs.Outcome). o.left) now;
-          events = ap (λ (o : runs.Outcome). o.events) now
-              ∙ deeds_same (types_in functions) meant.world.store.deeds;
-        };
-        in_step = record {
-          least = le-leb meant.made _ (subst (λ k. meant.made ≤ k) (sym (ap (λ (o : runs.Outcome). o.made)
-              now)) shows.least);
-          most = le-leb _ (8 * meant.made) (subst (λ k. k ≤ 8 * meant.made) (sym (ap (λ (o : runs.Outcome).
-              o.made) now)) shows.most);
-        };
-        stays = λ over more. is (shows.steps + more) ∙ shows.stays over more ∙ sym (is shows.steps);
-      }
+    -- what a run shows that begins at a place
+    shown_follows : (input : List ℕ) (s : _) (meant : Outcome)
+        → ((limit : ℕ) → low_run true (lowered told_of functions) input limit
+        ≡ exec (lowered told_of functions) limit (run_at s 0))
+        → Shows (coding told_of functions slot) s meant → Follows told_of functions input meant
+    shown_follows input s meant is shows =
+        let now = is shows.steps ∙ shows.here in
+        record {
+          steps = shows.steps;
+          made = ap (λ (o : runs.Outcome). o.made) now;
+          agrees = record {
+            ending = ap (λ (o : runs.Outcome). o.ending) now ∙ ending_same meant.ending;
+            output = ap (λ (o : runs.Outcome). o.output) now;
+            left = ap (λ (o : runs.Outcome). o.left) now;
+            events = ap (λ (o : runs.Outcome). o.events) now
+                ∙ deeds_same (types_in functions) meant.world.store.deeds;
+          };
+          in_step = record {
+            least = le-leb meant.made _ (subst (λ k. meant.made ≤ k) (sym (ap (λ (o : runs.Outcome). o.made)
+                now)) shows.least);
+            most = le-leb _ (8 * meant.made) (subst (λ k. k ≤ 8 * meant.made) (sym (ap (λ (o : runs.Outcome).
+                o.made) now)) shows.most);
+          };
+          stays = λ over more. is (shows.steps + more) ∙ shows.stays over more ∙ sym (is shows.steps);
+        }
+
+-- the slots of the entry
+abbrev pub entry_slots : List (Option Low) → Slots
+entry_slots own = record { below = []; own = own; lent = [] }
 
 module _ {T C : Type 0} (told_of : ClosedType → LowType) (fn : Function ℕ T C) (rest : List (Function ℕ T
     C)) (good : GoodProgram told_of (fn ∷ rest)) where
   -- an entry without parameters
   pub begins_none : fn.parameters ≡ [] → (input : List ℕ) (limit : ℕ)
       → low_run true (lowered told_of (fn ∷ rest)) input limit
-      ≡ exec (lowered told_of (fn ∷ rest)) limit (run_at (spot (coding told_of (fn ∷ rest)) entry_frame 0 []
-      (new_slots (slots_of fn) []) (first_common (coding told_of (fn ∷ rest)) input)) 0)
+      ≡ exec (lowered told_of (fn ∷ rest)) limit (run_at (spot (coding told_of (fn ∷ rest) good.slot) entry_frame 0 []
+      (entry_slots (new_slots (slots_of fn) [])) (first_common (coding told_of (fn ∷ rest) good.slot) input)) 0)
   begins_none none input limit =
       let code = lowered told_of (fn ∷ rest) in
       let low_fn = function_code (texts_in (fn ∷ rest)) (types_in (fn ∷ rest)) fn in
@@ -128,15 +134,15 @@ module _ {T C : Type 0} (told_of : ClosedType → LowType) (fn : Function ℕ T 
       ap (λ types. type_number types p.of) front.1
       ∙ ap (λ b. cond (not b) (1 + position_or_len (λ t. same t p.of) front.0) 0) (same_self p.of)
 
-  abbrev pub root_common : (p : Field) (input : List ℕ) → Common (coding told_of (fn ∷ rest))
+  abbrev pub root_common : (p : Field) (input : List ℕ) → Common (coding told_of (fn ∷ rest) good.slot)
   root_common p input =
-      let c = first_common (coding told_of (fn ∷ rest)) input in
+      let c = first_common (coding told_of (fn ∷ rest) good.slot) input in
       record c { store = bears p.of (codes "Austral.Pervasive") nothing c.store }
 
   pub begins_root : (p : Field) → fn.parameters ≡ p ∷ [] → (input : List ℕ) (limit : ℕ)
       → low_run true (lowered told_of (fn ∷ rest)) input limit
-      ≡ exec (lowered told_of (fn ∷ rest)) limit (run_at (spot (coding told_of (fn ∷ rest)) entry_frame 0 []
-      (new_slots (slots_of fn) (values.root 0 ∷ [])) (root_common p input)) 0)
+      ≡ exec (lowered told_of (fn ∷ rest)) limit (run_at (spot (coding told_of (fn ∷ rest) good.slot) entry_frame 0 []
+      (entry_slots (new_slots (slots_of fn) (values.root 0 ∷ []))) (root_common p input)) 0)
   unfolding exec
   begins_root p one input limit =
       let code = lowered told_of (fn ∷ rest) in
@@ -171,20 +177,20 @@ module _ {T C : Type 0} (told_of : ClosedType → LowType) (fn : Function ℕ T 
   unfolding call_at follows
   entry_follows input ticks [] is claim =
       let functions = λ (i : ℕ). slice_get (fn ∷ rest) i in
-      let by = coding told_of (fn ∷ rest) in
-      let s = spot by entry_frame 0 [] (new_slots (slots_of fn) []) (first_common by input) in
+      let by = coding told_of (fn ∷ rest) good.slot in
+      let s = spot by entry_frame 0 [] (entry_slots (new_slots (slots_of fn) [])) (first_common by input) in
       let call : List Value → Action Value = call_at functions (suc ticks) 0 in
       let mean_is : mean functions 0 input ticks ≡ seen ticks (call [] (first_world input) ticks) = ap (λ
       params. seen ticks (begun params call (first_world input) ticks)) is in
       let shows = enters_if by functions (has_program told_of (fn ∷ rest) good) fn [] (first_common by
       input) ticks refl (length (all_meant by []) == length fn.parameters) refl in
-      shown_follows told_of (fn ∷ rest) input s (mean functions 0 input ticks) (begins_none is input)
+      shown_follows told_of (fn ∷ rest) good.slot input s (mean functions 0 input ticks) (begins_none is input)
       (subst (λ o. Claims by s o) (sym mean_is) shows claim)
   entry_follows input ticks (p ∷ []) is claim =
       let functions = λ (i : ℕ). slice_get (fn ∷ rest) i in
-      let by = coding told_of (fn ∷ rest) in
+      let by = coding told_of (fn ∷ rest) good.slot in
       let root : Both by = values.root 0 in
-      let s = spot by entry_frame 0 [] (new_slots (slots_of fn) (values.root 0 ∷ [])) (root_common p input)
+      let s = spot by entry_frame 0 [] (entry_slots (new_slots (slots_of fn) (values.root 0 ∷ []))) (root_common p input)
       in
       let call : List Value → Action Value = call_at functions (suc ticks) 0 in
       let mean_is : mean functions 0 input ticks ≡ seen ticks (call (values.root 0 ∷ []) (root_born p.of
@@ -192,7 +198,7 @@ module _ {T C : Type 0} (told_of : ClosedType → LowType) (fn : Function ℕ T 
       ticks)) is in
       let shows = enters_if by functions (has_program told_of (fn ∷ rest) good) fn (root ∷ []) (root_common
       p input) ticks refl (length (all_meant by (root ∷ [])) == length fn.parameters) refl in
-      shown_follows told_of (fn ∷ rest) input s (mean functions 0 input ticks) (begins_root p is input)
+      shown_follows told_of (fn ∷ rest) good.slot input s (mean functions 0 input ticks) (begins_root p is input)
       (subst (λ o. Claims by s o) (sym mean_is) shows claim)
   entry_follows input ticks (p ∷ q ∷ more) is claim = absurd (subst (λ params. EntryTakes params) is
       (good.entry fn refl))

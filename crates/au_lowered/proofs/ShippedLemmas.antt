@@ -20,11 +20,13 @@ use Rattle.au_meaning.specs.Acts as acts
 use Rattle.au_shipped.specs.declared.prims.ShippedCall.{ShippedCall}
 use Rattle.au_shipped.specs.declared.prims.ShippedCall.TheVariants as prim
 use Rattle.au_syntax.specs.Plain.{Bytes}
-use Rattle.au_lowered.specs.Maps.{value_to, world_to, answer_to}
-use Rattle.au_lowered.specs.Sides.{Coding, Word, Both, Names, Slots, Common, Frame, machine, spot, world}
+use Rattle.au_lowered.specs.Maps.{value_to, world_to, answer_to, Change}
+use Rattle.au_lowered.specs.Sides.{as_meant, as_ran, Coding, Word, Both, Names, Slots, Common}
+use Rattle.au_lowered.specs.Frames.{Frame, machine, spot, world}
 use Rattle.au_lowered.specs.Sides.{meant, all_meant, all_ran}
 use Rattle.au_lowered.specs.Runs.{at, reached}
-use Rattle.au_lowered.proofs.CallLemmas.{popped_all, spends_to}
+use Rattle.au_lowered.proofs.CallLemmas.{popped_all}
+use Rattle.au_lowered.proofs.DeedLemmas.{spends_to}
 use Rattle.au_lowered.proofs.LeadLemmas.{leads_to, leads_tick, leads_spare}
 use Rattle.au_lowered.proofs.MapLemmas.{number_in_to, truth_in_to, text_in_to}
 use Rattle.au_lowered.proofs.SimLemmas.{sim_spare, sim_given}
@@ -40,9 +42,9 @@ settles none = true
 
 -- A shipped call of one argument, which does the same where texts are changed.
 pub record PlainCall (call : ShippedCall) : Type 1 where
-  pub natural : {T S B D : Type 0} (f : T → S) (g : B → D) (frames : List (List (Option (Value S)))) (bs : S
+  pub natural : {T S B D : Type 0} (f : Change T S) (g : B → D) (frames : List (List (Option (Value S)))) (bs : S
       → List ℕ) (bt : T → List ℕ)
-      → ((t : T) → bs (f t) ≡ bt t) → (w : World T B) (a : Value T)
+      → ((t : T) → bs (f.text t) ≡ bt t) → (w : World T B) (a : Value T)
       → shipped bs call None (world_to f g frames w) (value_to f a ∷ [])
       ≡ answer_to f g frames (shipped bt call None w (a ∷ []))
   pub settled : {T B : Type 0} (bt : T → List ℕ) (w : World T B) (a : Value T)
@@ -56,20 +58,20 @@ pub record PlainCall (call : ShippedCall) : Type 1 where
 
 -- ---- what needs something
 
-module _ {T S B D : Type 0} (f : T → S) (g : B → D) (frames : List (List (Option (Value S)))) where
+module _ {T S B D : Type 0} (f : Change T S) (g : B → D) (frames : List (List (Option (Value S)))) where
   given_to : {X : Type 0} (o : Option X) (go : X → Answer T B) (also : X → Answer S D) → ((x : X) → also x
       ≡ answer_to f g frames (go x))
       → given o also ≡ answer_to f g frames (given o go)
   given_to None go also e = refl
   given_to (Some x) go also e = e x
 
-  mapped_to : (o : Option T) (go : T → Answer T B) (also : S → Answer S D) → ((t : T) → also (f t)
+  mapped_to : (o : Option T) (go : T → Answer T B) (also : S → Answer S D) → ((t : T) → also (f.text t)
       ≡ answer_to f g frames (go t))
-      → given (option_map f o) also ≡ answer_to f g frames (given o go)
+      → given (option_map f.text o) also ≡ answer_to f g frames (given o go)
   mapped_to None go also e = refl
   mapped_to (Some t) go also e = e t
 
-  text_to : (a : Value T) (go : T → Answer T B) (also : S → Answer S D) → ((t : T) → also (f t)
+  text_to : (a : Value T) (go : T → Answer T B) (also : S → Answer S D) → ((t : T) → also (f.text t)
       ≡ answer_to f g frames (go t))
       → given (text_in (value_to f a)) also ≡ answer_to f g frames (given (text_in a) go)
   text_to a go also e = ap (λ o. given o also) (text_in_to f a) ∙ mapped_to (text_in a) go also e
@@ -219,16 +221,16 @@ span_plain = record {
   one = refl;
 }
 
-module _ (by : Coding) (f : Frame) (Holds : Names → Slots → Type 0) where
+module _ (by : Coding) (f : Frame by) (Holds : Names → Slots → Type 0) where
   -- what a call comes to
   answer_runs : (i : Instr) (p q l : ℕ) (r : Answer (Word by) ClosedType) (args : List (Value Bytes)) (ops
       before : List (Both by)) (names : Names) (slots : Slots) (c : Common by)
       → Is by f p i → q ≡ p + 1 → Holds names slots → settles r ≡ true
       → act by.code i (machine by f p before slots c)
-      ≡ low.answered (answer_to (λ (w : Word by). by.text w.bytes) by.of (f.below ++ slots ∷ []) r) (machine
+      ≡ low.answered (answer_to (as_ran by) by.of (slots.below ++ slots.own ∷ []) r) (machine
       by f p ops slots c)
       → Pushes by f Holds q ops 6 (spot by f p before slots c) (suc l)
-      (acts.told args (answer_to (λ (w : Word by). w.bytes) (λ (t : ClosedType). t) (f.under ++ names ∷ [])
+      (acts.told args (answer_to (as_meant by) (λ (t : ClosedType). t) (names.below ++ names.own ∷ [])
       r) (world by f names c) l)
   answer_runs i p q l (gives v store) args ops before names slots c is next h settled e =
       sim_spare by f _ (omega arith)
@@ -276,10 +278,10 @@ module _ (by : Coding) (f : Frame) (Holds : Names → Slots → Type 0) where
       let at_place = here refl in
       let one : length vs ≡ arity call = omega (arith, many, good.one) in
       let r = shipped (λ (w : Word by). w.bytes) call None c.store (a ∷ []) in
-      let meant_is = good.natural (λ (w : Word by). w.bytes) (λ (t : ClosedType). t) (f.under ++ names ∷ [])
+      let meant_is = good.natural (as_meant by) (λ (t : ClosedType). t) (names.below ++ names.own ∷ [])
       (λ text. text) (λ (w : Word by). w.bytes) (λ w. refl) c.store a in
-      let ran_is = good.natural (λ (w : Word by). by.text w.bytes) by.of (f.below ++ slots ∷ []) (text_bytes
-      by.code) (λ (w : Word by). w.bytes) (λ w. w.known) c.store a in
+      let ran_is = good.natural (as_ran by) by.of (slots.below ++ slots.own ∷ []) (text_bytes by.code)
+      (λ (w : Word by). w.bytes) (λ w. w.known) c.store a in
       let m = machine by f p ops slots c in
       subst (λ x. Pushes by f Holds q ops 6 (spot by f p (reverse vs ++ ops) slots c) (suc l) (acts.told
       (meant by a ∷ []) x (world by f names c) l)) (sym meant_is)

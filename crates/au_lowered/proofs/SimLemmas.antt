@@ -7,11 +7,12 @@ use Rattle.au_low.specs.Instructions.{act}
 use Rattle.au_low.specs.Runs.{exec, fetched}
 use Rattle.au_meaning.specs.Ticks.{Out, Action, gives, aborts, cut, no_rule, follows, ticked, needing, where_true}
 use Rattle.au_meaning.specs.Worlds.{World}
-use Rattle.au_lowered.specs.Sides.{Coding, Names, Slots, Common, Frame, Spot, world, told}
+use Rattle.au_lowered.specs.Sides.{Coding, Names, Slots, Common, Spot, told}
+use Rattle.au_lowered.specs.Frames.{Frame, world}
 use Rattle.au_lowered.specs.Runs.{at, reached, Leads, CutOff, Aim, aim_at, Given, Sim}
 use Rattle.au_lowered.proofs.LeadLemmas.{leads_on, leads_spare, leads_more, leads_to, cut_on}
 
-module _ (by : Coding) (f : Frame) where
+module _ (by : Coding) (f : Frame by) where
   -- what a run leads to does what an action does
   pub sim_on : {A B : Type 0} {aim : Aim by A B} {s t : Spot} {n m d e : ℕ} (r : Out A)
       → Leads by.code s n (at t) m d → Sim by f aim e t m r → Sim by f aim (d + e) s n r

@@ -1,8 +1,6 @@
 -- The rows of statements.
 use Rattle.std.proofs.Common.{◌≡◌, ℕ, suc, ◌+◌, ◌<◌, ◌≤◌, Bool, false, List, [], ◌∷◌, length, Option, Some}
-use Rattle.std.proofs.Common.{None, refl, sym, ap, subst, subst₂, ◌∙◌, arith, set, inl, inr}
-use Rattle.std.specs.Prelude.{option_map}
-use Rattle.std.proofs.lemmas.List.{length-set}
+use Rattle.std.proofs.Common.{None, refl, sym, ap, subst, subst₂, ◌∙◌, arith, inl, inr}
 use Rattle.au_type_texts.specs.Types.{ClosedType}
 use Rattle.au_low.specs.declared.instructions.Instr.{Instr}
 use Rattle.au_low.specs.declared.instructions.Instr.TheVariants as instr
@@ -14,16 +12,17 @@ use Rattle.au_lowered.proofs.StandLemmas.{parts_stand}
 use Rattle.au_meaning.specs.Acts.{holds, sets}
 use Rattle.au_meaning.specs.Names.{Scope, variable_of, path_numbers}
 use Rattle.au_meaning.specs.Statements as meaning
-use Rattle.au_meaning.specs.Statements.{Flow, and_then, leaves, while_turns}
+use Rattle.au_meaning.specs.Statements.{Flow}
 use Rattle.au_meaning.specs.Ticks as ticks
-use Rattle.au_meaning.specs.Ticks.{Out, Action, gives, pure, stuck, over, tick, ticked, follows, needing, ◌>>=◌}
+use Rattle.au_meaning.specs.Ticks.{Action, gives, pure, stuck, tick, follows, needing, ◌>>=◌}
 use Rattle.au_meaning.specs.Views.{View}
 use Rattle.au_meaning.specs.Worlds.{Value}
 use Rattle.au_syntax.specs.Plain.{Bytes}
-use Rattle.au_lowered.specs.Scopes.{Entry, variable, numbers_in, slots_in, Distinct, Scoped, Agree}
-use Rattle.au_lowered.specs.Sides.{Coding, Both, Names, Slots, Common, Frame, spot, world, meant, ran}
+use Rattle.au_lowered.specs.Scopes.{Entry, variable, numbers_in, slots_in, Distinct, Scoped}
+use Rattle.au_lowered.specs.Frames.{Wide, Agree, name_put, slot_put, Frame, spot, world}
+use Rattle.au_lowered.specs.Sides.{Coding, Both, Names, Slots, Common, meant, ran}
 use Rattle.au_lowered.specs.Runs.{at, reached, Sim}
-use Rattle.au_lowered.proofs.FrameLemmas.{Found, Means, means, set_same, held_other, number_free, slot_free, under_more}
+use Rattle.au_lowered.proofs.FrameLemmas.{Found, Means, means, number_free, slot_free, under_more}
 use Rattle.au_lowered.proofs.LeadLemmas.{leads_spare, leads_to, leads_tick, leads_none}
 use Rattle.au_lowered.proofs.SimLemmas.{sim_spare, sim_given, sim_stuck, sim_bind}
 use Rattle.au_lowered.proofs.StepLemmas.{meant_set, ticks_at}
@@ -32,9 +31,10 @@ use Rattle.au_lowered.specs.Premises.{Placed}
 use Rattle.au_lowered.specs.Rows.{Gives}
 use Rattle.au_lowered.specs.Flows.{falls, returns, flow_aim, Behind, After, Does, Whole}
 use Rattle.au_lowered.proofs.FlowLemmas.{return_reach}
+use Rattle.au_lowered.proofs.LevelLemmas.{level_of, agree_put, agree_new}
 
-module _ (by : Coding) (f : Frame) (get : ℕ → Option Draft) (placed : Placed by f.function get) (depth wide
-    room : ℕ) where
+module _ (by : Coding) (f : Frame by) (get : ℕ → Option Draft) (placed : Placed by f.function get)
+    (depth : ℕ) (wide : Wide) (room : ℕ) where
   parts : PartsStandIn get
   parts = parts_stand get
 
@@ -47,9 +47,9 @@ module _ (by : Coding) (f : Frame) (get : ℕ → Option Draft) (placed : Placed
   abbrev pub Behind_so : Bool → List (Entry by) → Names → Slots → Type 0
   Behind_so out scope names slots = Behind by f get depth wide room out scope names slots
 
-  abbrev pub After_so : Bool → List (Entry by) → Scope → Scope → ℕ → ℕ → Names → Slots → Type 0
-  After_so out scope numbers slots number slot names held = After by f get depth wide room out scope numbers
-      slots number slot names held
+  abbrev pub After_so : Bool → ℕ → List (Entry by) → Scope → Scope → ℕ → ℕ → Names → Slots → Type 0
+  After_so out first scope numbers slots number slot names held = After by f get depth wide room out first
+      scope numbers slots number slot names held
 
   -- where no rule applies
   pub stuck_does : (scope : List (Entry by)) (write : Written) (H : Names → Slots → Type 0)
@@ -58,7 +58,7 @@ module _ (by : Coding) (f : Frame) (get : ℕ → Option Draft) (placed : Placed
 
   -- nothing is done
   pub skip_does : (scope : List (Entry by)) (H : Names → Slots → Type 0)
-      → ((names : Names) (slots : Slots) → Agree by wide room scope names slots → H names slots)
+      → ((names : Names) (slots : Slots) → Agree by f wide room scope names slots → H names slots)
       → Does_so scope nothing (pure meaning.falls) H
   skip_does scope H h = record {
     runs = λ p q names slots c n stands ag le.
@@ -72,12 +72,13 @@ module _ (by : Coding) (f : Frame) (get : ℕ → Option Draft) (placed : Placed
   pub none_declared : (scope : List (Entry by)) (number slot number2 slot2 : ℕ)
       → Scoped by number slot scope
       → number ≤ number2 → slot ≤ slot2 → (names : Names) (slots : Slots)
-      → Agree by wide room scope names slots
-      → After_so false scope (numbers_in by scope) (slots_in by scope) number2 slot2 names slots
+      → Agree by f wide room scope names slots
+      → After_so false number scope (numbers_in by scope) (slots_in by scope) number2 slot2 names slots
   none_declared scope number slot number2 slot2 scoped le le2 names slots ag = (
     refl,
     record {
       new = [];
+      fresh = tt;
       numbers_are = refl;
       slots_are = refl;
       scoped = record {
@@ -94,7 +95,7 @@ module _ (by : Coding) (f : Frame) (get : ℕ → Option Draft) (placed : Placed
       → Action Flow) (scope : List (Entry by)) (i : Instr)
       → Whole_so scope w m
       → ((p q : ℕ) (v : Both by) (names : Names) (slots : Slots) (c : Common by) (l : ℕ)
-      → get p ≡ Some (plain i) → q ≡ p + 1 → Agree by wide room scope names slots
+      → get p ≡ Some (plain i) → q ≡ p + 1 → Agree by f wide room scope names slots
       → Sim by f (flow_aim by f H q) 0 (spot by f p (v ∷ []) slots c) (suc l) (go (meant by v) (world by f
       names c) l))
       → Does_so scope (w >> does i) (m >>= λ v. tick (go v)) H
@@ -102,7 +103,7 @@ module _ (by : Coding) (f : Frame) (get : ℕ → Option Draft) (placed : Placed
     runs = λ p q names slots c n stands ag le.
         let row = parts.of_row w (does i) p q stands in
         let here = parts.of_one (plain i) row.middle q row.second in
-        sim_bind by f (meant by) (λ v names slots. Agree by wide room scope names slots) (λ v slots c. spot
+        sim_bind by f (meant by) (λ v names slots. Agree by f wide room scope names slots) (λ v slots c. spot
         by f row.middle (v ∷ []) slots c)
         (m (world by f names c) n) (λ v. tick (go v)) (a.runs p row.middle names slots c n row.first ag le)
         (λ v names slots c k ag few.
@@ -113,34 +114,37 @@ module _ (by : Coding) (f : Frame) (get : ℕ → Option Draft) (placed : Placed
   -- a variable is declared
   pub declare_does : {w : Written} {m : Action Value} (scope : List (Entry by)) (number slot : ℕ) (name :
       Bytes) (of : Option ClosedType)
-      → Scoped by number slot scope → number + 1 ≤ wide → slot + 1 ≤ room → Whole_so scope w m
+      → Scoped by number slot scope → by.slot number ≡ slot → number + 1 ≤ wide.count → slot + 1 ≤ room
+      → Whole_so scope w m
       → Does_so scope (w >> does (instr.Store slot)) (m >>= λ v. tick (ticks.◌>>◌ (holds number v) (pure
       meaning.falls)))
-      (After_so false scope (numbers_in by (variable name number slot of ∷ scope)) (slots_in by (variable
+      (After_so false number scope (numbers_in by (variable name number slot of ∷ scope)) (slots_in by (variable
       name number slot of ∷ scope)) (number + 1) (slot + 1))
   unfolding follows
-  declare_does {w} {m} scope number slot name of scoped fits fits2 a =
+  declare_does {w} {m} scope number slot name of scoped home fits fits2 a =
       instruction_does (λ v. ticks.◌>>◌ (holds number v) (pure meaning.falls)) scope (instr.Store slot) a (λ
       p q v names slots c l here next ag.
-      let H = After_so false scope (numbers_in by (variable name number slot of ∷ scope)) (slots_in by
+      let H = After_so false number scope (numbers_in by (variable name number slot of ∷ scope)) (slots_in by
       (variable name number slot of ∷ scope)) (number + 1) (slot + 1) in
       let s = spot by f p (v ∷ []) slots c in
-      let slots2 = set slots slot (Some (ran by v)) in
-      let names2 = set names number (Some (meant by v)) in
+      let slots2 = slot_put slot (Some (ran by v)) slots in
+      let names2 = name_put number (Some (meant by v)) names in
       let free = number_free by number slot number scope scoped.under (omega arith) in
       let free2 = slot_free by number slot slot scope scoped.under (omega arith) in
-      let within : number < length names = omega (arith, ag.names_are, fits) in
-      let within2 : slot < length slots = omega (arith, ag.slots_are, fits2) in
+      let level = level_of by f names slots ag.rest in
+      let within : number < length names.own = omega (arith, ag.names_are, fits) in
+      let within2 : slot < length slots.own = omega (arith, ag.slots_are, fits2) in
       subst (λ w. Sim by f (flow_aim by f H q) 0 s (suc l) (gives meaning.falls w l)) (sym (meant_set by f
       number (Some (meant by v)) names c))
       (sim_given by f (flow_aim by f H q) falls names2 slots2 c (
         refl,
         record {
           new = variable name number slot of ∷ [];
+          fresh = (omega arith, tt);
           numbers_are = refl;
           slots_are = refl;
           scoped = record {
-            distinct = (free, free2, scoped.distinct);
+            distinct = (free, free2, home, scoped.distinct);
             under = (
               omega arith,
               omega arith,
@@ -148,30 +152,17 @@ module _ (by : Coding) (f : Frame) (get : ℕ → Option Draft) (placed : Placed
                   (omega arith) (omega arith) scoped.under,
             );
           };
-          agree = record {
-            names_are = length-set names number (Some (meant by v)) ∙ ag.names_are;
-            slots_are = length-set slots slot (Some (ran by v)) ∙ ag.slots_are;
-            held = (
-              record {
-                both = Some v;
-                in_name = set_same names number (Some (meant by v)) within;
-                in_slot =
-                    set_same slots slot (Some (ran by v)) within2;
-              },
-              held_other by scope number slot names slots (Some (meant by v)) (Some (ran by v)) free free2
-                  ag.held,
-            );
-          };
+          agree = agree_new by f wide room scope name number slot of v names slots free free2 within within2 ag;
         },
       )
       (leads_spare by.code (omega arith) (leads_to by.code
-      (ap (λ nx. reached s nx) (store_goes by f slot p v [] slots c within2)
+      (ap (λ nx. reached s nx) (store_goes by f slot p v [] slots c level within2)
       ∙ ap (λ i. at (spot by f i [] slots2 c)) (sym next))
       (leads_tick by.code s (instr.Store slot) l (placed.has p (plain (instr.Store slot)) here))))))
 
   -- a call is a statement
   pub discard_does : {w : Written} {m : Action Value} {H : Names → Slots → Type 0} (scope : List (Entry by))
-      → ((names : Names) (slots : Slots) → Agree by wide room scope names slots → H names slots)
+      → ((names : Names) (slots : Slots) → Agree by f wide room scope names slots → H names slots)
       → Whole_so scope w m
       → Does_so scope (w >> does instr.Discard) (m >>= λ v. tick (pure meaning.falls)) H
   unfolding act
@@ -184,20 +175,23 @@ module _ (by : Coding) (f : Frame) (get : ℕ → Option Draft) (placed : Placed
       next))
       (leads_tick by.code s instr.Discard l (placed.has p (plain instr.Discard) here)))))
 
-  -- a value is returned
-  pub return_does : {w : Written} {m : Action Value} {H : Names → Slots → Type 0} (scope : List (Entry by))
-      → Gives by f get depth wide room scope w m
+  -- a value is returned, where more borrows may be open
+  pub return_does : {w : Written} {m : Action Value} {H : Names → Slots → Type 0} (inner : Wide) (scope : List
+      (Entry by))
+      → ((names : Names) (slots : Slots) → Agree by f wide room scope names slots
+      → Agree by f inner room scope names slots)
+      → Gives by f get depth inner room scope w m
       → Does_so scope (w >> does instr.Return) (m >>= λ v. tick (pure (meaning.returns v))) H
-  return_does {w} {m} {H} scope a = record {
+  return_does {w} {m} {H} inner scope into a = record {
     runs = λ p q names slots c n stands ag le.
         let row = parts.of_row w (does instr.Return) p q stands in
         let here = parts.of_one (plain instr.Return) row.middle q row.second in
-        sim_bind by f (meant by) (λ v names slots. Agree by wide room scope names slots) (λ v slots c. spot
+        sim_bind by f (meant by) (λ v names slots. Agree by f inner room scope names slots) (λ v slots c. spot
         by f row.middle (v ∷ []) slots c)
         (m (world by f names c) n) (λ v. tick (pure (meaning.returns v))) (a.runs p row.middle [] names
-        slots c n row.first ag le) (λ v names slots c k ag few.
+        slots c n row.first (into names slots ag) le) (λ v names slots c k ag few.
         ticks_at by f (pure (meaning.returns (meant by v))) row.middle (v ∷ []) names slots c k (λ l e.
-        sim_given by f (flow_aim by f H q) (returns v) names slots c tt
+        sim_given by f (flow_aim by f H q) (returns v) names slots c ag.rest
         (leads_spare by.code (omega arith) (leads_to by.code (return_reach by f row.middle v slots c)
         (leads_tick by.code (spot by f row.middle (v ∷ []) slots c) instr.Return l (placed.has row.middle
         (plain instr.Return) here.here))))));
@@ -209,7 +203,7 @@ module _ (by : Coding) (f : Frame) (get : ℕ → Option Draft) (placed : Placed
   set_does : {w : Written} {m : Action Value} {H : Names → Slots
       → Type 0} (scope : List (Entry by)) (name : Bytes) (found : Found by scope name) (path : List ℕ)
       → Distinct by scope
-      → ((names : Names) (slots : Slots) → Agree by wide room scope names slots → H names slots)
+      → ((names : Names) (slots : Slots) → Agree by f wide room scope names slots → H names slots)
       → Whole_so scope w m
       → Does_so scope (w >> does (instr.Set found.slot path)) (m >>= λ v. tick (ticks.◌>>◌ (sets
       found.number path v) (pure meaning.falls))) H
@@ -219,16 +213,12 @@ module _ (by : Coding) (f : Frame) (get : ℕ → Option Draft) (placed : Placed
       sim_spare by f _ (omega arith)
       (set_runs by f (pure meaning.falls) found.number found.slot path p q l v [] names slots c (placed.has
       p (plain (instr.Set found.slot path)) here) next
-      (found.look names slots ag.held)
+      (level_of by f names slots ag.rest) (found.look names.own slots.own ag.held)
       (λ both.
-      let names2 = set names found.number (option_map (meant by) both) in
-      let slots2 = set slots found.slot (option_map (ran by) both) in
+      let names2 = name_put found.number (Some (meant by both)) names in
+      let slots2 = slot_put found.slot (Some (ran by both)) slots in
       sim_given by f (flow_aim by f H q) falls names2 slots2 c
-      (h names2 slots2 (record {
-        names_are = length-set names found.number (option_map (meant by) both) ∙ ag.names_are;
-        slots_are = length-set slots found.slot (option_map (ran by) both) ∙ ag.slots_are;
-        held = found.put names slots both distinct ag.held;
-      }))
+      (h names2 slots2 (agree_put by f wide room scope name found (Some both) names slots distinct ag))
       (leads_none by.code (spot by f q [] slots2 c) l))))
 
   -- a whole expression, behind which no rule applies
@@ -238,7 +228,7 @@ module _ (by : Coding) (f : Frame) (get : ℕ → Option Draft) (placed : Placed
   nowhere_does {w} {m} {H} wb scope a = record {
     runs = λ p q names slots c n stands ag le.
         let row = parts.of_row w wb p q stands in
-        sim_bind by f (meant by) (λ v names slots. Agree by wide room scope names slots) (λ v slots c. spot
+        sim_bind by f (meant by) (λ v names slots. Agree by f wide room scope names slots) (λ v slots c. spot
         by f row.middle (v ∷ []) slots c)
         (m (world by f names c) n) (λ v. tick stuck) (a.runs p row.middle names slots c n row.first ag le)
         (λ v names slots c k ag few.
@@ -248,7 +238,7 @@ module _ (by : Coding) (f : Frame) (get : ℕ → Option Draft) (placed : Placed
   pub assign_does : {T C : Type 0} {w : Written} {m : Action Value} {H : Names → Slots
       → Type 0} (see : View ℕ T C) (scope : List (Entry by)) (name : Bytes) (fields : List Bytes)
       → Distinct by scope
-      → ((names : Names) (slots : Slots) → Agree by wide room scope names slots → H names slots)
+      → ((names : Names) (slots : Slots) → Agree by f wide room scope names slots → H names slots)
       → Whole_so scope w m
       → Does_so scope
       (w >> code.part_of see (variable_of (slots_in by scope) name) fields (λ s numbers. does (instr.Set s

@@ -1,7 +1,7 @@
 -- Values that are taken apart: their fields go to slots, and those that are bound to names.
 use Rattle.std.proofs.Common.{◌≡◌, ◌≢◌, ℕ, zero, suc, ◌+◌, ◌<◌, ◌≤◌, Bool, true, false, List, [], ◌∷◌, ◌++◌}
 use Rattle.std.proofs.Common.{length, Option, Some, None, refl, sym, ap, subst, subst₂, ◌∙◌, arith, slice_get}
-use Rattle.std.proofs.Common.{set, nat_lt, lt-ltb, true≢false, append_assoc, if◌then◌else◌}
+use Rattle.std.proofs.Common.{set, nat_lt, lt-ltb, true≢false, append_assoc, if◌then◌else◌, inl, inr}
 use Rattle.std.specs.Prelude.{option_map}
 use Rattle.std.specs.Str.{bytes_eq}
 use Rattle.std.proofs.lemmas.List.{length-set}
@@ -19,11 +19,15 @@ use Rattle.au_meaning.specs.Worlds.{Value}
 use Rattle.au_syntax.specs.Plain.{Bytes}
 use Rattle.au_syntax.specs.Types.{Bound}
 use Rattle.au_lowered.specs.Scopes.{Entry, variable, numbers_in, slots_in, Same, Held, SlotFree, Distinct, Under}
-use Rattle.au_lowered.specs.Sides.{Coding, Both, Names, Slots, Common, Frame, machine, world, meant, ran, all_meant}
+use Rattle.au_lowered.specs.Scopes.{From, Only, InScope}
+use Rattle.au_lowered.specs.Sides.{Coding, Both, Names, Slots, Common, meant, ran, all_meant, Named, Slotted}
+use Rattle.au_lowered.specs.Frames.{Frame, machine, world, name_put, slot_put}
 use Rattle.au_lowered.proofs.FrameLemmas.{set_same, set_other, held_name, held_slot, number_free, slot_free, under_more}
+use Rattle.au_lowered.proofs.FrameLemmas.{only_set, from_less, from_both}
 use Rattle.au_lowered.proofs.StepLemmas.{meant_set, ran_set, slots_are}
 use Rattle.au_lowered.specs.Binds.{fields_bound}
 use Rattle.au_lowered.specs.Premises.{Lacks, Once}
+use Rattle.au_lowered.specs.Homes.{BindsHomed}
 
 -- ---- the number of a field
 
@@ -86,24 +90,24 @@ fields_apart (first ∷ rest) n name other one two apart e g =
 
 -- ---- slots that are filled
 
-abbrev pub filled : ℕ → List Low → Slots → Slots
+abbrev pub filled : ℕ → List Low → Slotted → Slotted
 filled slot [] slots = slots
 filled slot (value ∷ rest) slots = filled (slot + 1) rest (set slots slot (Some value))
 
-pub filled_length : (slot : ℕ) (values : List Low) (slots : Slots) → length (filled slot values slots)
+pub filled_length : (slot : ℕ) (values : List Low) (slots : Slotted) → length (filled slot values slots)
     ≡ length slots
 filled_length slot [] slots = refl
 filled_length slot (value ∷ rest) slots = filled_length (slot + 1) rest (set slots slot (Some value))
     ∙ length-set slots slot (Some value)
 
-filled_before : (slot s : ℕ) (values : List Low) (slots : Slots) → s < slot
+filled_before : (slot s : ℕ) (values : List Low) (slots : Slotted) → s < slot
     → slice_get (filled slot values slots) s ≡ slice_get slots s
 filled_before slot s [] slots h = refl
 filled_before slot s (value ∷ rest) slots h =
     filled_before (slot + 1) s rest (set slots slot (Some value)) (omega (arith, h))
     ∙ set_other slots s slot (Some value) (λ e. absurd (omega (arith, e, h)))
 
-pub filled_at : (slot k : ℕ) (values : List Low) (slots : Slots) (value : Low)
+pub filled_at : (slot k : ℕ) (values : List Low) (slots : Slotted) (value : Low)
     → slot + length values ≤ length slots
     → slice_get values k ≡ Some value → slice_get (filled slot values slots) (slot + k) ≡ Some (Some value)
 filled_at slot k [] slots value h e = absurd (grind arith)
@@ -127,37 +131,48 @@ filled_at slot (suc k) (first ∷ rest) slots value h e =
 
 -- ---- names that are given
 
-abbrev pub named : ℕ → List Value → Names → Names
+abbrev pub named : ℕ → List Value → Named → Named
 named n [] names = names
 named n (value ∷ rest) names = named (n + 1) rest (set names n (Some value))
 
-module _ (by : Coding) (f : Frame) where
+-- the same of the running frame
+abbrev pub all_filled : ℕ → List Low → Slots → Slots
+all_filled slot values slots = record slots { own = filled slot values slots.own }
+
+abbrev pub all_named : ℕ → List Value → Names → Names
+all_named n values names = record names { own = named n values names.own }
+
+module _ (by : Coding) (f : Frame by) where
   pub filled_is : (slot p : ℕ) (values : List Low) (ops : List (Both by)) (slots : Slots) (c : Common by)
-      → slot + length values ≤ length slots
+      → length slots.below ≡ length f.waiting → slot + length values ≤ length slots.own
       → machines.slots_filled slot values (machine by f p ops slots c)
-      ≡ Some (machine by f p ops (filled slot values slots) c)
-  filled_is slot p [] ops slots c h = refl
-  filled_is slot p (value ∷ rest) ops slots c h =
+      ≡ Some (machine by f p ops (all_filled slot values slots) c)
+  filled_is slot p [] ops slots c level h = refl
+  filled_is slot p (value ∷ rest) ops slots c level h =
       let m = machine by f p ops slots c in
-      let more = set slots slot (Some value) in
+      let more = slot_put slot (Some value) slots in
       ap (λ b. if b then machines.slots_filled (slot + 1) rest (machines.slot_set slot (Some value) m) else
       None)
-      (ap (λ all. nat_lt slot (length all)) (slots_are by f p ops slots c)
-      ∙ lt-ltb slot (length slots) (omega (arith, h)))
+      (ap (λ all. nat_lt slot (length all)) (slots_are by f p ops slots c level)
+      ∙ lt-ltb slot (length slots.own) (omega (arith, h)))
       ∙ ap (λ after. machines.slots_filled (slot + 1) rest after) (ran_set by f slot (Some value) p ops
-      slots c)
-      ∙ filled_is (slot + 1) p rest ops more c (omega (arith, h, length-set slots slot (Some value)))
+      slots c level)
+      ∙ filled_is (slot + 1) p rest ops more c level (omega (
+        arith,
+        h,
+        length-set slots.own slot (Some value),
+      ))
 
   pub named_is : (n : ℕ) (values : List Value) (names : Names) (c : Common by)
-      → with_values n values (world by f names c) ≡ world by f (named n values names) c
+      → with_values n values (world by f names c) ≡ world by f (all_named n values names) c
   named_is n [] names c = refl
   named_is n (value ∷ rest) names c =
       ap (λ w. with_values (n + 1) rest w) (meant_set by f n (Some value) names c)
-      ∙ named_is (n + 1) rest (set names n (Some value)) c
+      ∙ named_is (n + 1) rest (name_put n (Some value) names) c
 
 module _ (by : Coding) where
-  pub held_filled : (scope : List (Entry by)) (number slot s : ℕ) (values : List Low) (names : Names) (slots
-      : Slots) → Under by number slot scope
+  pub held_filled : (scope : List (Entry by)) (number slot s : ℕ) (values : List Low) (names : Named) (slots
+      : Slotted) → Under by number slot scope
       → slot ≤ s → Held by scope names slots → Held by scope names (filled s values slots)
   held_filled scope number slot s [] names slots u le h = h
   held_filled scope number slot s (value ∷ rest) names slots u le h =
@@ -196,14 +211,16 @@ module _ (by : Coding) where
 
     -- what is bound
     pub record Taken (binds : List (Bound Bytes)) (number : ℕ) (scope : List (Entry by)) (xs : List Value)
-        (names : Names) (slots : Slots) : Type 0 where
+        (names : Named) (slots : Slotted) : Type 0 where
       pub new : List (Entry by)
       pub numbers_are : with_bound (Some fields) number binds (numbers_in by scope)
           ≡ numbers_in by (new ++ scope)
       pub slots_in_are : with_fields fields slot binds (slots_in by scope) ≡ slots_in by (new ++ scope)
       pub distinct : Distinct by (new ++ scope)
       pub under : Under by (number + length binds) (slot + length fields) (new ++ scope)
+      pub fresh : From by number new
       pub held : Held by (new ++ scope) (named number xs names) slots
+      pub only : Only by (new ++ scope) (named number xs names)
       pub wide : length (named number xs names) ≡ length names
 
     -- the first of what is bound
@@ -247,15 +264,16 @@ module _ (by : Coding) where
         (sym (ap (λ o. bound_by o (bound_values fields (all_meant by vs) binds)) value) ∙ e)
 
     pub take_all : (binds : List (Bound Bytes)) (number : ℕ) (scope : List (Entry by)) (xs : List Value)
-        (names : Names) (slots : Slots)
+        (names : Named) (slots : Slotted)
         → bound_values fields (all_meant by vs) binds ≡ Some xs → Once (fields_bound binds)
         → FreeFor (fields_bound binds) scope
         → Distinct by scope → Under by number (slot + length fields) scope
         → ((k : ℕ) (v : Both by) → slice_get vs k ≡ Some v → slice_get slots (slot + k)
         ≡ Some (Some (ran by v)))
-        → number + length binds ≤ length names → Held by scope names slots
+        → number + length binds ≤ length names → BindsHomed by.slot fields number slot binds
+        → Held by scope names slots → Only by scope names
         → Taken binds number scope xs names slots
-    take_all [] number scope xs names slots e once free distinct under there fits held =
+    take_all [] number scope xs names slots e once free distinct under there fits homes held only =
         let none : [] ≡ xs = cc in
         let zero_more : number ≡ number + 0 = omega arith in
         record {
@@ -264,10 +282,12 @@ module _ (by : Coding) where
           slots_in_are = refl;
           distinct = distinct;
           under = subst (λ n. Under by n (slot + length fields) scope) zero_more under;
+          fresh = tt;
           held = subst (λ all. Held by scope (named number all names) slots) none held;
+          only = subst (λ all. Only by scope (named number all names)) none only;
           wide = subst (λ all. length (named number all names) ≡ length names) none refl;
         }
-    take_all (b ∷ binds) number scope xs names slots e once free distinct under there fits held =
+    take_all (b ∷ binds) number scope xs names slots e once free distinct under there fits homes held only =
         let x = first_field b binds xs (field_of b.name.name.name fields) refl e in
         let own = bound_name b.name in
         let entry = variable own number (slot + x.one.0) (Some x.one.1) in
@@ -283,14 +303,16 @@ module _ (by : Coding) where
         } in
         let more = take_all binds (number + 1) scope2 x.ys names2 slots x.found once.1
         (free_next b.name.name.name own number x.one (fields_bound binds) scope x.known once.0 free.1)
-        (number_is_free, free.0 x.one x.known, distinct) (
+        (number_is_free, free.0 x.one x.known, homes.0 x.one x.known, distinct) (
           omega arith,
           omega (arith, within.1),
           under_more by number (slot + length fields) (number + 1)
               (slot + length fields) scope (omega arith) (omega arith) under,
         )
-        there (omega (arith, fits, length-set names number (Some (meant by x.v))))
-        (same, held_name by scope number names slots (Some (meant by x.v)) number_is_free held) in
+        there (omega (arith, fits, length-set names number (Some (meant by x.v)))) homes.1
+        (same, held_name by scope number names slots (Some (meant by x.v)) number_is_free held)
+        (only_set (λ m. InScope by m scope2) names number (Some (meant by x.v)) (λ m v k. inr (only m v k))
+        (λ v k. inl refl)) in
         let all : more.new ++ scope2 ≡ (more.new ++ entry ∷ []) ++ scope = sym (append_assoc more.new (entry
         ∷ []) scope) in
         let count : number + 1 + length binds ≡ number + length (b ∷ binds) = omega arith in
@@ -305,8 +327,11 @@ module _ (by : Coding) where
               ∙ more.slots_in_are ∙ ap (λ inner. slots_in by inner) all;
           distinct = subst (λ inner. Distinct by inner) all more.distinct;
           under = subst₂ (λ n inner. Under by n (slot + length fields) inner) count all more.under;
+          fresh = from_both by number more.new (entry ∷ []) (from_less by number (number + 1) more.new (omega
+              arith) more.fresh) (omega arith, tt);
           held = subst₂ (λ values inner. Held by inner (named number values names) slots) x.is all
               more.held;
+          only = subst₂ (λ values inner. Only by inner (named number values names)) x.is all more.only;
           wide = subst (λ values. length (named number values names) ≡ length names) x.is (more.wide
               ∙ length-set names number (Some (meant by x.v)));
         }

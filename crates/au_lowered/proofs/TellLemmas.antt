@@ -4,14 +4,16 @@ use Rattle.std.proofs.Common.{length, reverse, take, drop, Option, Some, None, s
 use Rattle.std.proofs.Common.{int_lt}
 use Rattle.au_base.specs.declared.kinds.IntKind.{IntKind}
 use Rattle.au_ints.specs.Ranges.{is_of_kind}
-use Rattle.au_effects.specs.Values.{Place, name_of, content_of, number, made, listed}
+use Rattle.au_effects.specs.Values.{Place, name_of, content_of, number, made, reference, listed}
+use Rattle.au_effects.specs.Cases.{case_behind}
 use Rattle.au_effects.specs.Parts.{along, part, with_part}
 use Rattle.au_effects.specs.Worlds.{Deed, tells, bears, spends, closes, closed, used, opened, nothing}
 use Rattle.au_effects.specs.Places.{at, base_at, base_set, set_over}
 use Rattle.au_effects.specs.Numbers.{number_in, same_kind, truth_in, computed, wrapped_around, compared}
 use Rattle.au_effects.specs.Numbers.{negated, converted_value}
 use Rattle.au_effects.specs.Answers as answer
-use Rattle.au_effects.specs.Calls.{reference_in, arity, shipped}
+use Rattle.au_effects.specs.Calls.{arity, shipped}
+use Rattle.au_effects.specs.References.{reference_in, reference_along, place_along}
 use Rattle.au_low.specs.declared.code.Code.{Code}
 use Rattle.au_low.specs.declared.code.Function.{Function}
 use Rattle.au_low.specs.declared.code.LowType.{LowType}
@@ -28,8 +30,9 @@ use Rattle.au_low.specs.Machines.{Low, LowWorld, Machine, Waiting, Next, goes, w
 use Rattle.au_low.specs.Machines.{stuck, having, where_true, onward, in_world, popping, popping_two}
 use Rattle.au_low.specs.Machines.{popping_all, in_slot, has_slot, slot_set, slots_filled, ordered, ordered_if}
 use Rattle.au_low.specs.Machines.{begins, frame_ended, pushes}
+use Rattle.au_low.specs.Instructions as low
 use Rattle.au_low.specs.Instructions.{act, instructions, jumps, jumps_unless, comes, stores, puts, slot_part}
-use Rattle.au_low.specs.Instructions.{place_along, reference_at, uses, reads_at, both_numbers, slot_numbers}
+use Rattle.au_low.specs.Instructions.{reference_in_slot, pushes_behind, both_numbers, slot_numbers}
 use Rattle.au_low.specs.Instructions.{makes, apart, calls, answered, text_bytes, is_type, new_reference}
 use Rattle.au_low.specs.Instructions.{borrowed, borrowed_place, is_of_slot, exit_in, returns, on_pair}
 use Rattle.au_low.specs.Instructions.{takes_record, goes_to_case}
@@ -111,11 +114,15 @@ module _ (deeds : List (Deed ℕ)) where
         → Tells deeds (having (at place m.world) f)
     tells_at place f h = tells_having (at place m.world) f h
 
-    tells_reads : (borrow : ℕ) (place : Place) → Tells deeds (reads_at borrow place m)
-    tells_reads borrow place =
-        tells_having (at place m.world) (λ value. pushes value (uses borrow m)) (λ value.
-        begins_trans deeds m.world.deeds (tells (used borrow) m.world).deeds so (begins_told (used borrow)
-        m.world))
+    tells_reads : (one : ℕ × Place) → Tells deeds (pushes_behind one m)
+    tells_reads one = by_held (at one.1 m.world)
+      where
+        by_held : (o : Option Low) → Tells deeds (having (along {A = Low} {B = Low × LowWorld} o
+            (λ value. Some (value, tells (used one.0) m.world))) (λ pair. pushes pair.0 (in_world pair.1 m)))
+        by_held None = tt
+        by_held (Some value) =
+            begins_trans deeds m.world.deeds (tells (used one.0) m.world).deeds so
+            (begins_told (used one.0) m.world)
 
     tells_set : (base : _) (path : List ℕ) (value old : Low)
         → Begins deeds (base_set base (with_part path value old) m.world).deeds
@@ -185,7 +192,8 @@ module _ (deeds : List (Deed ℕ)) where
         None) f h
     tells_borrow mode.Write slot f h = tells_having (if has_slot slot m then Some (slot_part slot [] m) else
         None) f h
-    tells_borrow mode.Again slot f h = tells_having (along (reference_at slot m) (λ one. Some one.1)) f h
+    tells_borrow mode.Again slot f h =
+        tells_having (along (reference_in_slot slot m) (λ one. Some one.1)) f h
 
   tells_returns : (waiting : List Waiting) (result : Low) (m : Machine) → Begins deeds m.world.deeds
       → Tells deeds (returns waiting result m)
@@ -215,6 +223,37 @@ module _ (deeds : List (Deed ℕ)) where
       (begins_trans deeds m.world.deeds (spends birth m.world).deeds so (begins_spends birth m.world)) (h
       tag)
   tells_apart other slot m f so h = tt
+
+  -- what is told apart behind a reference, by the parts, and by what stands there
+  behind_parts : (one : ℕ × Place) (slot : ℕ) (m : Machine) (f : ℕ → Machine → Next) → Begins deeds m.world.deeds
+      → ((tag : ℕ) (k : Machine) → Begins deeds k.world.deeds → Tells deeds (f tag k))
+      → (parts : Option (ℕ × List Low))
+      → Tells deeds (having (along {B = (ℕ × List Low) × LowWorld} parts (λ parts. Some (
+        parts,
+        tells (used one.0) m.world,
+      ))) (λ told. having (slots_filled slot told.0.1 (in_world told.1 m)) (f told.0.0)))
+  behind_parts one slot m f so h None = tt
+  behind_parts one slot m f so h (Some parts) =
+      tells_filled slot parts.1 (in_world (tells (used one.0) m.world) m) (f parts.0)
+      (begins_trans deeds m.world.deeds (tells (used one.0) m.world).deeds so (begins_told (used one.0) m.world))
+      (h parts.0)
+
+  behind_held : (one : ℕ × Place) (slot : ℕ) (m : Machine) (f : ℕ → Machine → Next) → Begins deeds m.world.deeds
+      → ((tag : ℕ) (k : Machine) → Begins deeds k.world.deeds → Tells deeds (f tag k)) → (held : Option Low)
+      → Tells deeds (having (along {B = (ℕ × List Low) × LowWorld} (along {B = Low × LowWorld} held (λ value. Some (
+        value,
+        tells (used one.0) m.world,
+      ))) (λ pair. along {B = (ℕ × List Low) × LowWorld} (case_behind one pair.0) (λ parts. Some (parts, pair.1)))) (λ
+      told. having (slots_filled slot told.0.1 (in_world told.1 m)) (f told.0.0)))
+  behind_held one slot m f so h None = tt
+  behind_held one slot m f so h (Some value) = behind_parts one slot m f so h (case_behind one value)
+
+  tells_case : (value : Low) (slot : ℕ) (m : Machine) (f : ℕ → Machine → Next) → Begins deeds m.world.deeds
+      → ((tag : ℕ) (k : Machine) → Begins deeds k.world.deeds → Tells deeds (f tag k))
+      → Tells deeds (low.tells_apart value slot m f)
+  tells_case (made tag birth fields) slot m f so h = tells_apart (made tag birth fields) slot m f so h
+  tells_case (reference borrow place) slot m f so h = behind_held (borrow, place) slot m f so h (at place m.world)
+  tells_case other slot m f so h = tt
 
 opened_told : (m : Machine) → Begins m.world.deeds (borrowed m).world.deeds
 opened_told m = begins_told (opened m.world.borrows) (record m.world { borrows = m.world.borrows + 1 })
@@ -273,7 +312,7 @@ act_tells code (Make of tag order home) m =
 act_tells code (Take slot) m = tells_popping m.world.deeds m.operands m _ (λ value rest. tells_apart
     m.world.deeds value slot (record m { operands = rest }) takes_record (begins_refl m.world.deeds)
     (λ tag k so. tells_where m.world.deeds (tag == 0) _ so))
-act_tells code (Case slot labels) m = tells_popping m.world.deeds m.operands m _ (λ value rest. tells_apart
+act_tells code (Case slot labels) m = tells_popping m.world.deeds m.operands m _ (λ value rest. tells_case
     m.world.deeds value slot (record m { operands = rest }) (goes_to_case code labels) (begins_refl
     m.world.deeds)
     (λ tag k so. tells_having m.world.deeds (slice_get labels tag) _ (λ label. tells_jumps m.world.deeds k
@@ -288,22 +327,22 @@ act_tells code (Shipped call of order) m =
     values) rest (shipped_tells (text_bytes code) call of m.world values))))
 act_tells code Return m = tells_popping m.world.deeds m.operands m _ (λ result rest. tells_returns
     m.world.deeds m.waiting result (record m { operands = rest }) (begins_refl m.world.deeds))
-act_tells code (Read slot path) m = tells_having m.world.deeds (reference_at slot m) _ (λ one. tells_reads
-    m.world.deeds m (begins_refl m.world.deeds) one.0 (place_along one.1 path))
+act_tells code (Read slot path) m = tells_having m.world.deeds (reference_in_slot slot m) _ (λ one.
+    tells_reads m.world.deeds m (begins_refl m.world.deeds) (reference_along one path))
 act_tells code (Put slot path) m =
-    tells_having m.world.deeds (reference_at slot m) _ (λ one. tells_popping m.world.deeds m.operands m _ (λ
-    value rest.
-    tells_puts m.world.deeds (uses one.0 (record m { operands = rest })) (begins_told (used one.0) m.world)
-    (place_along one.1 path) value))
+    tells_having m.world.deeds (reference_in_slot slot m) _ (λ one.
+    tells_popping m.world.deeds m.operands m _ (λ value rest.
+    tells_puts m.world.deeds (in_world (tells (used one.0) m.world) (record m { operands = rest }))
+    (begins_told (used one.0) m.world) (place_along one.1 path) value))
 act_tells code Deref m = tells_popping m.world.deeds m.operands m _ (λ value rest. tells_having
     m.world.deeds (reference_in value) _ (λ one. tells_reads m.world.deeds (record m { operands = rest })
-    (begins_refl m.world.deeds) one.0 one.1))
+    (begins_refl m.world.deeds) one))
 act_tells code (Open slot mode) m = tells_where m.world.deeds (is_of_slot mode) _ (tells_borrow
     m.world.deeds m (begins_refl m.world.deeds) mode slot _ (λ place. opened_told m))
 act_tells code (Again slot) m = tells_borrow m.world.deeds m (begins_refl m.world.deeds) mode.Again slot _
     (λ place. opened_told m)
-act_tells code (Part slot path) m = tells_having m.world.deeds (reference_at slot m) _ (λ one. begins_refl
-    m.world.deeds)
+act_tells code (Part slot path) m = tells_having m.world.deeds (reference_in_slot slot m) _ (λ one.
+    begins_refl m.world.deeds)
 act_tells code (Bind from into mode) m = tells_borrow m.world.deeds m (begins_refl m.world.deeds) mode from
     _ (λ place. tells_stores m.world.deeds (borrowed m) (opened_told m) into (new_reference place m))
 act_tells code (Close count) m = begins_closes (take (length m.open_borrows - count) m.open_borrows) m.world

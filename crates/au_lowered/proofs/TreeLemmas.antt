@@ -6,8 +6,8 @@ use Rattle.au_typing.specs.Returns.{block_returns}
 use Rattle.au_effects.specs.Values as values
 use Rattle.au_low.specs.declared.instructions.Instr.TheVariants as instr
 use Rattle.au_meaning.specs.Expressions.{Operation, computes, compares, is_and, is_or, operation_of, kind_in}
-use Rattle.au_meaning.specs.Expressions.{note_of, names_of}
-use Rattle.au_meaning.specs.Names.{Scope, Variable, variable_of}
+use Rattle.au_meaning.specs.Expressions.{note_of, names_of, alone}
+use Rattle.au_meaning.specs.Names.{Scope, Variable, variable_of, mode_of}
 use Rattle.au_meaning.specs.Views.{View, Callee, Act, invokes, makes, ships}
 use Rattle.au_meaning.specs.Worlds.{Value}
 use Rattle.au_shipped.specs.declared.prims.ShippedCall.{ShippedCall}
@@ -28,7 +28,7 @@ use Rattle.au_lowered.specs.Expressions.{code, code_of_all, code_of_named, whole
 use Rattle.au_lowered.specs.Expressions.{taken, looked_at, operand, borrows, ships_call, acts, calls, mention}
 use Rattle.au_lowered.specs.Expressions.{part_of, part_behind, joins}
 use Rattle.au_lowered.specs.Laws.{Fits}
-use Rattle.au_lowered.specs.Slots.{mode_of, tag_in}
+use Rattle.au_meaning.specs.Statements.{tag_told}
 use Rattle.au_lowered.specs.Statements.{lends, is_last, statement, block, tests_of, arms_of}
 use Rattle.au_lowered.proofs.FitLemmas.{fits_both, fits_nothing, fits_one, fits_given, fits_when, fits_either}
 use Rattle.au_lowered.proofs.FitLemmas.{fits_loop, fits_turns, ArmsFit, arms_end, arms_fit, fits_cases}
@@ -172,24 +172,7 @@ module _ {T C : Type 0} (see : View ℕ T C) where
 
   -- what is looked at is a part of an expression
   fits_operand : (scope : Scope) (e : Expression Bytes T C) {w : Written} → Fits 0 w → Fits 0 (operand scope e w)
-  fits_operand scope (number n l) fw = fw
-  fits_operand scope (negative n l) fw = fw
-  fits_operand scope (text n t) fw = fw
-  fits_operand scope (truth n b) fw = fw
-  fits_operand scope (nil n) fw = fw
-  fits_operand scope (path n x []) fw = fits_looked (variable_of scope x.name) fw
-  fits_operand scope (path n x (f ∷ fs)) fw = fw
-  fits_operand scope (arrow n r fs) fw = fw
-  fits_operand scope (call n f args c) fw = fw
-  fits_operand scope (named_call n f args c) fw = fw
-  fits_operand scope (parenthesized n e) fw = fits_operand scope e fw
-  fits_operand scope (dereference n e) fw = fw
-  fits_operand scope (borrow n m x) fw = fw
-  fits_operand scope (borrow_part n r fs) fw = fw
-  fits_operand scope (binary n op a b) fw = fw
-  fits_operand scope (negation n e) fw = fw
-  fits_operand scope (typed n e t) fw = fw
-  fits_operand scope (choice n c a b) fw = fw
+  fits_operand scope e fw = fits_looked (alone scope e) fw
 
   mutual
     pub fits_expression : (scope : Scope) (e : Expression Bytes T C) → Fits 0 (code see scope e)
@@ -306,5 +289,5 @@ module _ {T C : Type 0} (see : View ℕ T C) where
         → ArmsFit 0 (arms_of see around slot scope note all)
     fits_arms around slot scope note no_arms = arms_end
     fits_arms around slot scope note (arms at name binds body rest) =
-        arms_fit (block_returns body || is_last rest) (tag_in see note name.name) (fits_block around _ _ body)
+        arms_fit (block_returns body || is_last rest) (tag_told see note name.name) (fits_block around _ _ body)
         (fits_arms around slot scope note rest)

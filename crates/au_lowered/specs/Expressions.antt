@@ -8,8 +8,8 @@ use Rattle.au_effects.specs.Values as values
 use Rattle.au_low.specs.declared.instructions.Instr.TheVariants as instr
 use Rattle.au_low.specs.declared.instructions.Mode.TheVariants as mode
 use Rattle.au_meaning.specs.Expressions.{Operation, computes, compares, is_and, is_or, operation_of, kind_in}
-use Rattle.au_meaning.specs.Expressions.{compared_kind, note_of, names_of, labels}
-use Rattle.au_meaning.specs.Names.{Scope, Variable, variable_of, path_numbers}
+use Rattle.au_meaning.specs.Expressions.{compared_kind, note_of, names_of, labels, alone}
+use Rattle.au_meaning.specs.Names.{Scope, Variable, variable_of, path_numbers, target_behind}
 use Rattle.au_meaning.specs.Views.{View, Callee, Act, invokes, makes, ships}
 use Rattle.au_meaning.specs.Worlds.{Value}
 use Rattle.au_shipped.specs.declared.prims.ShippedCall.{ShippedCall}
@@ -23,7 +23,6 @@ use Rattle.au_syntax.specs.Expressions.{expressions, no_arguments, arguments}
 use Rattle.au_syntax.specs.Plain.{Bytes}
 use Rattle.au_lowered.specs.Drafts.{pushes_text, makes_case, ships_birth, Written, ◌>>◌, nothing, one, does}
 use Rattle.au_lowered.specs.Drafts.{given, either}
-use Rattle.au_lowered.specs.Slots.{target_behind}
 
 -- ---- orders of arguments
 
@@ -85,9 +84,7 @@ looked_at None other = other
 looked_at (Some x) other = taken true x
 
 abbrev pub operand : {T C : Type 0} → Scope → Expression Bytes T C → Written → Written
-operand scope (path n x []) other = looked_at (variable_of scope x.name) other
-operand scope (parenthesized n e) other = operand scope e other
-operand scope e other = other
+operand scope e other = looked_at (alone scope e) other
 
 -- a borrow of a variable
 abbrev pub borrows : BorrowMode → Variable → Written

@@ -7,7 +7,7 @@ use Rattle.au_low.specs.Runs as low
 use Rattle.au_low.specs.Runs.{low_run}
 use Rattle.au_lowered.specs.Agreeing.{Agrees, InStep, event_numbered}
 use Rattle.au_lowered.specs.Drafts.{Draft}
-use Rattle.au_lowered.specs.Expressions.{code}
+use Rattle.au_lowered.specs.Expressions.{code, opens}
 use Rattle.au_lowered.specs.Programs.{types_in, lowered}
 use Rattle.au_meaning.specs.Expressions.{eval}
 use Rattle.au_meaning.specs.Laws.{Begins, is_over}
@@ -19,7 +19,8 @@ use Rattle.au_lowered.specs.Premises.{GoodView, Placed, GoodCalls}
 use Rattle.au_lowered.specs.FollowPrograms.{GoodProgram}
 use Rattle.au_lowered.specs.Rows.{Gives}
 use Rattle.au_lowered.specs.Scopes.{Entry, numbers_in, slots_in, Distinct}
-use Rattle.au_lowered.specs.Sides.{Coding, Frame}
+use Rattle.au_lowered.specs.Sides.{Coding}
+use Rattle.au_lowered.specs.Frames.{Wide, Frame}
 use Rattle.au_syntax.specs.Expressions.{Expression}
 use Rattle.au_syntax.specs.Plain.{Bytes}
 
@@ -84,11 +85,11 @@ module _ (T C : Type 0) where
       → Follows told functions input (mean (λ i. slice_get functions i) 0 input ticks)
 
   -- Where the code of an expression stands in a function, a run from its beginning does what the expression
-  -- means, with any operands below.
+  -- means, with any operands below, where more borrows may be open if it opens any.
   abbrev pub ExpressionsRun : Type 0
   ExpressionsRun = (by : Coding) (see : View ℕ T C) (invoke : ℕ → List Value → Action Value) (depth : ℕ)
-      (f : Frame) (get : ℕ → Option Draft) → Placed by f.function get → GoodView by see
-      → GoodCalls by invoke depth → (wide room : ℕ) (scope : List (Entry by)) → Distinct by scope
-      → (e : Expression Bytes T C)
+      (f : Frame by) (get : ℕ → Option Draft) → Placed by f.function get → GoodView by see
+      → GoodCalls by invoke depth → (wide : Wide) (room : ℕ) (scope : List (Entry by)) → Distinct by scope
+      → (e : Expression Bytes T C) → (opens e ≡ true → wide.opens ≡ true)
       → Gives by f get depth wide room scope (code see (slots_in by scope) e)
       (eval see invoke (numbers_in by scope) e)

@@ -6,10 +6,8 @@ use Rattle.au_base.specs.declared.kinds.IntKind.TheVariants.{Nat8, Int8}
 use Rattle.au_type_texts.specs.Types as closed_type
 use Rattle.au_type_texts.specs.Types.{ClosedType}
 use Rattle.au_effects.specs.Values as values
-use Rattle.au_effects.specs.Worlds.{opened, used, closed}
 use Rattle.au_ints.specs.declared.operations.WrapOp.TheVariants as wrap_op
 use Rattle.au_low.specs.declared.code.Code.{Code}
-use Rattle.au_low.specs.declared.endings.Ending.TheVariants.{Exit}
 use Rattle.au_low.specs.declared.instructions.Instr.TheVariants as instr
 use Rattle.au_low.specs.declared.instructions.Mode.TheVariants as mode
 use Rattle.au_low.specs.Runs.{low_run}
@@ -17,19 +15,16 @@ use Rattle.au_meaning.specs.Views.{Callee, Function, ships}
 use Rattle.au_meaning.specs.Samples.{Note, Tree, Sample, Instance, here, word, noted, linear, at_type, bytes}
 use Rattle.au_meaning.specs.Samples.{called_tree, block, variable, prints, succeeds, main, byte, plain, pair}
 use Rattle.au_meaning.specs.Samples.{key, maybe_of, exit_code, maybe}
-use Rattle.au_meaning.specs.Shown.{Line, line, alone, does, says, name, is}
+use Rattle.au_meaning.specs.Shown.{Line, alone, does, says, name, is}
+use Rattle.au_meaning.specs.ShownReferences.{written_byte, lending}
 use Rattle.au_shipped.specs.declared.prims.ShippedCall.TheVariants as prim
-use Rattle.au_syntax.specs.declared.expressions.BorrowMode.TheVariants as borrowing
-use Rattle.au_syntax.specs.declared.types.Access.TheVariants as access
-use Rattle.au_syntax.specs.Expressions.{Node, negative, nil, path, arrow, named_call, parenthesized}
-use Rattle.au_syntax.specs.Expressions.{dereference, borrow, borrow_part, typed, arguments, no_arguments}
+use Rattle.au_syntax.specs.Expressions.{negative, path, named_call, parenthesized, typed, arguments}
+use Rattle.au_syntax.specs.Expressions.{no_arguments}
 use Rattle.au_syntax.specs.Plain.{Bytes}
-use Rattle.au_syntax.specs.Statements.{skip, destructure, assign, assign_through, conditional}
-use Rattle.au_syntax.specs.Statements.{conditional_else, case_of, while_loop, for_loop, borrow_in}
-use Rattle.au_syntax.specs.Statements.{borrow_typed, discard, return_of, branches, no_branches, arms, no_arms}
-use Rattle.au_syntax.specs.Types as written
-use Rattle.au_syntax.specs.Types.{Bound, WrittenType}
-use Rattle.au_types.specs.declared.types.Region.TheVariants.{Static}
+use Rattle.au_syntax.specs.Statements.{skip, destructure, assign, conditional, conditional_else, case_of}
+use Rattle.au_syntax.specs.Statements.{while_loop, for_loop, discard, return_of, branches, no_branches, arms}
+use Rattle.au_syntax.specs.Statements.{no_arms}
+use Rattle.au_syntax.specs.Types.{Bound}
 use Rattle.au_types.specs.Types as type
 use Rattle.au_lowered.specs.Drafts as drafts
 use Rattle.au_lowered.specs.Expressions.{acts, by_labels, literal}
@@ -42,9 +37,6 @@ use Rattle.au_lowered.specs.Shown.{put, make, ship, print, succeed, entry}
 
 abbrev pub fails : Line
 fails = return_of here (called_tree (noted (plain exit_code)) (codes "ExitFailure") [])
-
-abbrev pub written_byte : WrittenType
-written_byte = written.named (word (codes "Nat8")) written.no_types
 
 -- a field that is bound to a variable
 abbrev pub bound : Bytes → Bytes → Bound Bytes
@@ -263,72 +255,9 @@ pub record FormsAreLowered : Type 0 where
   pub in_boxing : LowersOver boxing boxing_code
   pub pieces : PiecesAreShown
 
--- ---- references, which the meaning hasn't yet
+-- ---- references
 
--- a note of a reference to a pair
-abbrev pub reads_pair : Node Note
-reads_pair = noted (type.reads (plain pair) Static)
-
-abbrev pub writes_pair : Node Note
-writes_pair = linear (type.writes (plain pair) Static)
-
-abbrev pub left_of : Bytes → Tree
-left_of r = arrow (noted byte) (word r) (word (codes "left") ∷ [])
-
--- `function first(r: &[Pair, R]): Nat8 is return r->left; end;`
-abbrev pub first : Sample
-first = record {
-  name = codes "first";
-  parameters = (codes "r", type.reads (plain pair) Static) ∷ [];
-  body = block (return_of here (left_of (codes "r")) ∷ []);
-}
-
--- `function bump(w: &![Pair, R]): Unit is w->left := 6; return nil; end;`
-abbrev pub bump : Sample
-bump = record {
-  name = codes "bump";
-  parameters = (codes "w", type.writes (plain pair) Static) ∷ [];
-  body = block (
-      assign_through here (word (codes "w")) (word (codes "left") ∷ []) (bytes 6)
-      ∷ return_of here (nil (noted type.unit)) ∷ []);
-}
-
--- `borrow! p as w in R do`
--- `    w->left := 5; bump(&~w);`
--- `    borrow s: &![Pair, S] := &~w do printLn(s->left); end borrow;`
--- `end borrow;`
-abbrev pub writing : Line
-writing = borrow_in here access.Write (word (codes "p")) (word (codes "w")) (word (codes "R")) (block (
-    assign_through here (word (codes "w")) (word (codes "left") ∷ []) (bytes 5)
-    ∷ does type.unit (codes "bump") (borrow writes_pair borrowing.Reborrow (word (codes "w")) ∷ [])
-    ∷ borrow_typed here (word (codes "s")) written_byte borrowing.Reborrow (word (codes "w"))
-    (block (prints byte (left_of (codes "s")) ∷ [])) here
-    ∷ [])) here
-
--- `borrow p as r in R do`
--- `    printLn(!(&(r->right))); printLn(first(&p)); let d: Pair := !(r);`
--- `end borrow;`
-abbrev pub reading : Line
-reading = borrow_in here access.Read (word (codes "p")) (word (codes "r")) (word (codes "R")) (block (
-    prints byte (dereference (noted byte) (parenthesized (noted byte)
-    (borrow_part reads_pair (word (codes "r")) (word (codes "right") ∷ []))))
-    ∷ prints byte (called_tree (noted byte) (codes "first")
-    (borrow reads_pair borrowing.Read (word (codes "p")) ∷ []))
-    ∷ variable (codes "d") (dereference (noted (plain pair)) (parenthesized writes_pair
-    (path writes_pair (word (codes "r")) [])))
-    ∷ [])) here
-
--- `var p: Pair := Pair(1, 2);`, these two, and
--- `bump(&!p); borrow p as r in R do return ExitSuccess(); end borrow;`
-abbrev pub lending : List Sample
-lending = main (
-    variable (codes "p") (called_tree (noted (plain pair)) (codes "Pair") (bytes 1 ∷ bytes 2 ∷ []))
-    ∷ writing ∷ reading
-    ∷ does type.unit (codes "bump") (borrow writes_pair borrowing.Write (word (codes "p")) ∷ [])
-    ∷ borrow_in here access.Read (word (codes "p")) (word (codes "r")) (word (codes "R"))
-    (block (succeeds ∷ [])) here
-    ∷ []) ∷ first ∷ bump ∷ []
-
+-- the code of a program that lends
 abbrev pub lending_code : Code
 lending_code = by_hand [] (pair ∷ exit_code ∷ []) (
     closing.plain 3 (
@@ -352,12 +281,6 @@ lending_code = by_hand [] (pair ∷ exit_code ∷ []) (
 abbrev pub lent : List Instance
 lent = closing.alone 0 ∷ closing.alone 1 ∷ closing.alone 2 ∷ []
 
--- what it is lowered to, and what that does
+-- what it is lowered to, and that this does what it means
 pub record ReferencesAreLowered : Type 0 where
-  pub is : closing.code_of lent lending ≡ lending_code
-  pub ending : (low_run true lending_code [] 299).ending ≡ Exit true
-  pub output : (low_run true lending_code [] 299).output ≡ line 6 ++ line 2 ++ line 6
-  pub events : (low_run true lending_code [] 299).events ≡
-      opened 0 ∷ used 0 ∷ opened 1 ∷ used 1 ∷ closed 1 ∷ opened 2 ∷ used 2 ∷ closed 2 ∷ closed 0
-      ∷ opened 3 ∷ used 3 ∷ opened 4 ∷ used 4 ∷ closed 4 ∷ used 3 ∷ closed 3
-      ∷ opened 5 ∷ used 5 ∷ closed 5 ∷ opened 6 ∷ closed 6 ∷ []
+  pub in_lending : LowersInStep lent lending lending_code

@@ -17,8 +17,9 @@ use Rattle.au_meaning.specs.Views.{View, Callee, ships}
 use Rattle.au_meaning.specs.Worlds.{Value}
 use Rattle.au_shipped.specs.declared.prims.ShippedCall.{ShippedCall}
 use Rattle.au_shipped.specs.declared.prims.ShippedCall.TheVariants as prim
-use Rattle.au_lowered.specs.Sides.{Coding, Both, Names, Slots, Common, Frame, spot, world, meant}
-use Rattle.au_lowered.specs.Sides.{all_meant, all_ran}
+use Rattle.au_lowered.specs.Sides.{Coding, Both, Names, Slots, Common, meant, all_meant, all_ran}
+use Rattle.au_lowered.specs.Frames.{Frame, Wide, Agree, spot, world}
+use Rattle.au_lowered.specs.Scopes.{Entry, Distinct}
 use Rattle.au_lowered.specs.Runs.{aim_at, Sim}
 use Rattle.au_syntax.specs.Plain.{Bytes}
 
@@ -41,7 +42,7 @@ abbrev pub Once : List Bytes → Type 0
 Once [] = Unit {0}
 Once (name ∷ rest) = Lacks name rest × Once rest
 
--- whether a shipped call has to do with no reference, box, buffer or terminal
+-- whether a shipped call has to do with no box, buffer or terminal
 abbrev pub is_plain : ShippedCall → Bool
 is_plain prim.PrintText = true
 is_plain prim.PrintInt = true
@@ -54,6 +55,7 @@ is_plain (prim.Convert kind) = true
 is_plain prim.SurrenderRoot = true
 is_plain prim.Abort = true
 is_plain prim.SpanLength = true
+is_plain prim.Swap = true
 is_plain other = false
 
 module _ {T C : Type 0} (by : Coding) (see : View ℕ T C) where
@@ -101,17 +103,18 @@ module _ (by : Coding) (function : ℕ) (get : ℕ → Option Draft) where
 
 -- ---- calls
 
--- A call of a function, from any frame, does what its meaning does: the names and the slots of the frame
--- stay as they are, and the result is pushed.
-abbrev pub GoodCalls : Coding → (ℕ → List Value → Action Value) → ℕ → Type 0
+-- A call of a function, from any frame, does what its meaning does: the frame agrees again, and the result is
+-- pushed.
+abbrev pub GoodCalls : (by : Coding) → (ℕ → List Value → Action Value) → ℕ → Type 0
 GoodCalls by invoke depth =
-    (f : Frame) (i : ℕ) (order : List ℕ) (vs args ops : List (Both by)) (p l : ℕ) (names : Names)
-    (slots : Slots) (c : Common by) → l < depth
+    (f : Frame by) (i : ℕ) (order : List ℕ) (vs args ops : List (Both by)) (p l : ℕ) (wide : Wide) (room : ℕ)
+    (scope : List (Entry by)) (names : Names) (slots : Slots) (c : Common by) → l < depth
     → slice_get (instructions (slice_get by.code.functions f.function)) p ≡ Some (instr.Call i order)
     → length vs ≡ length order → length vs ≡ length args
     → ordered order (all_ran by vs) ≡ Some (all_ran by args)
+    → Distinct by scope → Agree by f wide room scope names slots
     → Sim by f
-    (aim_at (meant by) (λ (v : Both by) (n : Names) (s : Slots). (n ≡ names) × (s ≡ slots))
+    (aim_at (meant by) (λ (v : Both by) (n : Names) (s : Slots). Agree by f wide room scope n s)
     (λ (v : Both by) (s : Slots) (after : Common by). spot by f (p + 1) (v ∷ ops) s after))
     6 (spot by f p (reverse vs ++ ops) slots c) (suc l)
     (invoke i (all_meant by args) (world by f names c) l)

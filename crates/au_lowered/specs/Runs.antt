@@ -11,7 +11,8 @@ use Rattle.au_meaning.specs.Ticks as action
 use Rattle.au_meaning.specs.Ticks.{Out}
 use Rattle.au_meaning.specs.Worlds.{World, Fault}
 use Rattle.au_lowered.specs.Maps.{fault_to}
-use Rattle.au_lowered.specs.Sides.{Coding, Names, Slots, Common, Frame, Spot, world, told}
+use Rattle.au_lowered.specs.Sides.{Coding, Names, Slots, Common, Spot, told}
+use Rattle.au_lowered.specs.Frames.{Frame, world}
 
 -- Where a run leads: it goes on somewhere, or it has ended, or nothing is said.
 pub data Reach : Type 0 where
@@ -76,7 +77,7 @@ abbrev pub aim_at : {by : Coding} {A B : Type 0} → (B → A) → (B → Names 
     → (B → Slots → Common by → Spot) → Aim by A B
 aim_at view holds spot = record { view = view; holds = holds; target = λ b slots c. at (spot b slots c) }
 
-module _ (by : Coding) (f : Frame) {A B : Type 0} (aim : Aim by A B) where
+module _ (by : Coding) (f : Frame by) {A B : Type 0} (aim : Aim by A B) where
   -- An action gave something: it is the picture of something, in a world that is one, and the run leads
   -- there.
   pub record Given (spare : ℕ) (s : Spot) (n : ℕ) (a : A) (w : World) (l : ℕ) : Type 0 where

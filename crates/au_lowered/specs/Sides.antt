@@ -1,29 +1,54 @@
 -- The two sides of a run: the world of the meaning and the machine, as two pictures of one world in which a
 -- text is one that the code has.
-use Rattle.std.specs.Prelude.{◌≡◌, ℕ, List, [], ◌∷◌, ◌++◌, length, map, Option}
+use Rattle.std.specs.Prelude.{◌≡◌, ℕ, List, map, Option}
 use Rattle.au_type_texts.specs.Types.{ClosedType}
 use Rattle.au_effects.specs.Values as values
+use Rattle.au_effects.specs.Values.{Base, Place, name_of, content_of}
 use Rattle.au_effects.specs.Worlds as effects
 use Rattle.au_effects.specs.Worlds.{Deed}
 use Rattle.au_low.specs.declared.code.Code.{Code}
 use Rattle.au_low.specs.Instructions.{text_bytes}
-use Rattle.au_low.specs.Machines.{Low, LowWorld, Machine, Waiting}
+use Rattle.au_low.specs.Machines.{Low, LowWorld, Machine}
 use Rattle.au_meaning.specs.Worlds.{Value, World, Borrow}
 use Rattle.au_syntax.specs.Plain.{Bytes}
-use Rattle.au_lowered.specs.Maps.{value_to, deed_to, world_to}
+use Rattle.au_lowered.specs.Maps.{Change, value_to, deed_to, world_to}
 
--- code, and the numbers that texts and types have in it
+-- code, the numbers that texts and types have in it, and the slot of each declaration of its program
 pub record Coding : Type 0 where
   pub code : Code
   pub text : Bytes → ℕ
   pub of : ClosedType → ℕ
+  pub slot : ℕ → ℕ
 
 -- the names of a frame, and its slots
-abbrev pub Names : Type 0
-Names = List (Option Value)
+abbrev pub Named : Type 0
+Named = List (Option Value)
 
-abbrev pub Slots : Type 0
-Slots = List (Option Low)
+abbrev pub Slotted : Type 0
+Slotted = List (Option Low)
+
+-- The names of the frames below, and of the one that runs; and the borrows that this one has open, the newest
+-- first.
+pub record Names : Type 0 where
+  pub below : List Named
+  pub own : Named
+  pub lent : List Borrow
+
+-- the same of the machine, where a borrow is its number
+pub record Slots : Type 0 where
+  pub below : List Slotted
+  pub own : Slotted
+  pub lent : List ℕ
+
+-- ---- values
+
+-- the place of the machine for one of the meaning: names become slots
+abbrev pub base_slotted : (ℕ → ℕ) → Base → Base
+base_slotted slot (name_of frame name) = name_of frame (slot name)
+base_slotted slot (content_of birth) = content_of birth
+
+abbrev pub place_slotted : (ℕ → ℕ) → Place → Place
+place_slotted slot place = record { base = base_slotted slot place.base; path = place.path }
 
 module _ (by : Coding) where
   -- a text that the code has under its number
@@ -35,12 +60,19 @@ module _ (by : Coding) where
   abbrev pub Both : Type 0
   Both = values.Value Word
 
+  -- what texts and places are to the meaning, and to the machine
+  abbrev pub as_meant : Change Word Bytes
+  as_meant = record { text = λ w. w.bytes; place = λ place. place }
+
+  abbrev pub as_ran : Change Word ℕ
+  as_ran = record { text = λ w. by.text w.bytes; place = place_slotted by.slot }
+
   -- the value of the meaning, and that of the machine
   abbrev pub meant : Both → Value
-  meant value = value_to (λ (w : Word). w.bytes) value
+  meant value = value_to as_meant value
 
   abbrev pub ran : Both → Low
-  ran value = value_to (λ (w : Word). by.text w.bytes) value
+  ran value = value_to as_ran value
 
   abbrev pub all_meant : List Both → List Value
   all_meant values = map meant values
@@ -48,61 +80,31 @@ module _ (by : Coding) where
   abbrev pub all_ran : List Both → List Low
   all_ran values = map ran values
 
-  -- What both have besides frames: births, borrows and deeds; and the open borrows, the output, and the
-  -- bytes of the input that are left.
+  -- What both have besides frames and open borrows: births, the number of the next borrow, and deeds; the
+  -- output, and the bytes of the input that are left.
   pub record Common : Type 0 where
     pub store : effects.World Word ClosedType
-    pub lent : List Borrow
     pub output : List ℕ
     pub left : List ℕ
 
-  -- the world of the meaning, with these names, and that of the machine, with these slots
-  abbrev pub source : List Names → Common → World
-  source names c = record {
-    store = world_to (λ (w : Word). w.bytes) (λ (t : ClosedType). t) names c.store;
-    borrows = c.lent;
+  -- the world of the meaning, with these frames and open borrows, and that of the machine, with these slots
+  abbrev pub source : List Named → List Borrow → Common → World
+  source frames lent c = record {
+    store = world_to as_meant (λ (t : ClosedType). t) frames c.store;
+    borrows = lent;
     output = c.output;
     left = c.left;
   }
 
-  abbrev pub lower : List Slots → Common → LowWorld
-  lower slots c = world_to (λ (w : Word). by.text w.bytes) by.of slots c.store
+  abbrev pub lower : List Slotted → Common → LowWorld
+  lower frames c = world_to as_ran by.of frames c.store
 
 -- the events of the machine for those of the meaning
 abbrev pub told : Coding → World → List (Deed ℕ)
 told by w = map (deed_to by.of) w.store.deeds
-
--- A frame that runs: its function, the frames that wait for it, and the names and the slots of the frames
--- below it.
-pub record Frame : Type 0 where
-  pub function : ℕ
-  pub waiting : List Waiting
-  pub under : List Names
-  pub below : List Slots
-  pub level : length below ≡ length waiting
 
 -- where the machine is
 pub record Spot : Type 0 where
   pub machine : Machine
   pub output : List ℕ
   pub left : List ℕ
-
-module _ (by : Coding) (f : Frame) where
-  -- the world of the meaning where names of the frame are these
-  abbrev pub world : Names → Common by → World
-  world names c = source by (f.under ++ names ∷ []) c
-
-  -- the machine where slots of the frame are these
-  abbrev pub machine : ℕ → List (Both by) → Slots → Common by → Machine
-  machine place operands slots c = record {
-    function = f.function;
-    place = place;
-    operands = all_ran by operands;
-    open_borrows = [];
-    waiting = f.waiting;
-    world = lower by (f.below ++ slots ∷ []) c;
-  }
-
-  abbrev pub spot : ℕ → List (Both by) → Slots → Common by → Spot
-  spot place operands slots c =
-      record { machine = machine place operands slots c; output = c.output; left = c.left }

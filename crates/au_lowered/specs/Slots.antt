@@ -1,53 +1,19 @@
 -- The slots of a function: which variable has which, and how many are in use. Parameters have slots from 0,
 -- each later variable has the next one that is free, and a slot is free again where the block of its variable
 -- ends. The number of a variable in a scope is here the number of its slot.
-use Rattle.std.specs.Prelude.{ℕ, ◌+◌, max, List, [], ◌∷◌, length, Option, Some, None, option_map}
-use Rattle.au_type_texts.specs.Types as types
+use Rattle.std.specs.Prelude.{ℕ, ◌+◌, max, List, [], ◌∷◌, length, Option, Some, None}
 use Rattle.au_type_texts.specs.Types.{ClosedType}
 use Rattle.au_effects.specs.Parts.{along}
 use Rattle.au_meaning.specs.Expressions.{note_of}
-use Rattle.au_meaning.specs.Names.{Scope, Variable, with_name, bound_name, field_of}
-use Rattle.au_meaning.specs.Statements.{fields_noted}
+use Rattle.au_meaning.specs.Names.{Scope, with_name, bound_name, field_of}
+use Rattle.au_meaning.specs.Statements.{fields_noted, tag_told, fields_told}
 use Rattle.au_meaning.specs.Views.{Field, View}
-use Rattle.au_syntax.specs.declared.expressions.BorrowMode.{BorrowMode}
-use Rattle.au_syntax.specs.declared.expressions.BorrowMode.TheVariants as borrow
-use Rattle.au_syntax.specs.declared.types.Access.{Access}
-use Rattle.au_syntax.specs.declared.types.Access.TheVariants as access
 use Rattle.au_syntax.specs.Plain.{Bytes}
 use Rattle.au_syntax.specs.Statements.{Statement, Statements, Branches, Arms, skip, declare, destructure}
 use Rattle.au_syntax.specs.Statements.{assign, assign_through, conditional, conditional_else, case_of}
 use Rattle.au_syntax.specs.Statements.{while_loop, for_loop, borrow_in, borrow_typed, discard, return_of}
 use Rattle.au_syntax.specs.Statements.{no_statements, statements, no_branches, branches, no_arms, arms}
 use Rattle.au_syntax.specs.Types.{Bound}
-
--- ---- references
-
--- what a reference refers to
-abbrev pub target_behind : Option ClosedType → Option ClosedType
-target_behind (Some (types.reads t)) = Some t
-target_behind (Some (types.writes t)) = Some t
-target_behind other = None
-
--- the type of the reference that a borrow of a variable of a type gives: one that is borrowed again is of the
--- type of the reference that the variable holds
-abbrev pub borrowed : BorrowMode → Option ClosedType → Option ClosedType
-borrowed borrow.Read t = option_map (λ (of : ClosedType). types.reads of) t
-borrowed borrow.Write t = option_map (λ (of : ClosedType). types.writes of) t
-borrowed borrow.Reborrow t = t
-
--- how `borrow` and `borrow!` borrow
-abbrev pub mode_of : Access → BorrowMode
-mode_of access.Read = borrow.Read
-mode_of access.Write = borrow.Write
-
--- the type of a variable
-abbrev pub type_in : Option Variable → Option ClosedType
-type_in None = None
-type_in (Some x) = x.of
-
--- a scope with the reference that a borrow of a variable gives
-abbrev pub with_reference : BorrowMode → Option Variable → ℕ → Bytes → Scope → Scope
-with_reference mode variable slot name scope = with_name name slot (borrowed mode (type_in variable)) scope
 
 -- ---- fields that are taken
 
@@ -68,30 +34,26 @@ with_fields fields slot (b ∷ rest) scope =
     (with_field slot (bound_name b.name) (field_of b.name.name.name fields) scope)
 
 module _ {I T C : Type 0} (see : View I T C) where
-  -- the fields of the case of a number of what an expression is, by its note
-  abbrev pub fields_in : T → ℕ → List Field
-  fields_in note tag = known (fields_noted see note tag)
+  -- the fields of the record that an expression is, by its note
+  abbrev pub fields_in : T → List Field
+  fields_in note = known (fields_noted see note)
 
-  -- the number of the case that a name means
-  abbrev pub tag_in : T → Bytes → Option ℕ
-  tag_in note name = along (see.type_of note) (λ of. see.tag of name)
-
-  -- the fields of the case that a name means
+  -- the fields of the case that a name means, as they are bound
   abbrev pub fields_of_case : T → Bytes → List Field
-  fields_of_case note name = known (along (tag_in note name) (fields_noted see note))
+  fields_of_case note name = known (along (tag_told see note name) (fields_told see note))
 
   -- ---- what a statement leaves
 
   -- how many slots are in use after a statement that weren't before it
   abbrev pub kept : Statement Bytes T C → ℕ
   kept (declare at binding name t e) = 1
-  kept (destructure at binds e) = length (fields_in (note_of e) 0)
+  kept (destructure at binds e) = length (fields_in (note_of e))
   kept other = 0
 
   -- the scope after a statement, where so many slots were in use before it
   abbrev pub after : ℕ → Statement Bytes T C → Scope → Scope
   after slot (declare at binding name t e) scope = with_name name.name slot (see.type_of (note_of e)) scope
-  after slot (destructure at binds e) scope = with_fields (fields_in (note_of e) 0) slot binds scope
+  after slot (destructure at binds e) scope = with_fields (fields_in (note_of e)) slot binds scope
   after slot other scope = scope
 
   -- ---- how many slots are used
@@ -101,7 +63,7 @@ module _ {I T C : Type 0} (see : View I T C) where
     pub room : ℕ → Statement Bytes T C → ℕ
     room slot (skip at) = slot
     room slot (declare at binding name t e) = slot + 1
-    room slot (destructure at binds e) = slot + length (fields_in (note_of e) 0)
+    room slot (destructure at binds e) = slot + length (fields_in (note_of e))
     room slot (assign at x path e) = slot
     room slot (assign_through at r path e) = slot
     room slot (conditional at tests) = room_of_tests slot tests

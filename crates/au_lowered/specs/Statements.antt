@@ -7,8 +7,8 @@ use Rattle.au_low.specs.declared.instructions.Instr.TheVariants as instr
 use Rattle.au_low.specs.declared.instructions.Mode.{Mode}
 use Rattle.au_low.specs.declared.instructions.Mode.TheVariants as mode
 use Rattle.au_meaning.specs.Expressions.{note_of, names_of}
-use Rattle.au_meaning.specs.Names.{Scope, Variable, variable_of, with_name}
-use Rattle.au_meaning.specs.Statements.{is_tag}
+use Rattle.au_meaning.specs.Names.{Scope, Variable, variable_of, with_name, mode_of, with_reference}
+use Rattle.au_meaning.specs.Statements.{is_tag, tag_told}
 use Rattle.au_meaning.specs.Views.{View}
 use Rattle.au_syntax.specs.declared.expressions.BorrowMode.{BorrowMode}
 use Rattle.au_syntax.specs.declared.expressions.BorrowMode.TheVariants as borrowing
@@ -20,7 +20,7 @@ use Rattle.au_syntax.specs.Statements.{no_statements, statements, no_branches, b
 use Rattle.au_lowered.specs.Drafts.{Draft, plain, Written, ◌>>◌, nothing, does, given, unless, count_unless}
 use Rattle.au_lowered.specs.Drafts.{branch, looped}
 use Rattle.au_lowered.specs.Expressions.{code, whole, part_of, part_behind}
-use Rattle.au_lowered.specs.Slots.{mode_of, with_reference, with_fields, fields_of_case, tag_in, kept, after}
+use Rattle.au_lowered.specs.Slots.{with_fields, fields_of_case, kept, after}
 
 -- ---- pieces
 
@@ -158,6 +158,6 @@ module _ {T C : Type 0} (see : View ℕ T C) where
     arms_of around slot scope note no_arms place = record { starts = []; code = [] }
     arms_of around slot scope note (arms at name binds body rest) place =
         let fields = fields_of_case see note name.name in
-        arm_then (block_returns body || is_last rest) (tag_in see note name.name)
+        arm_then (block_returns body || is_last rest) (tag_told see note name.name)
         (block around (slot + length fields) (with_fields fields slot binds scope) body)
         (arms_of around slot scope note rest) place

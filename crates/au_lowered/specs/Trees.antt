@@ -1,8 +1,9 @@
 -- Trees in which each field is bound once.
 use Rattle.au_syntax.specs.Plain.{Bytes}
 use Rattle.au_syntax.specs.Statements.{Statement, Statements, Branches, Arms, destructure, conditional}
-use Rattle.au_syntax.specs.Statements.{conditional_else, case_of, while_loop, for_loop, no_statements}
-use Rattle.au_syntax.specs.Statements.{statements, no_branches, branches, no_arms, arms}
+use Rattle.au_syntax.specs.Statements.{conditional_else, case_of, while_loop, for_loop, borrow_in}
+use Rattle.au_syntax.specs.Statements.{borrow_typed, no_statements, statements, no_branches, branches}
+use Rattle.au_syntax.specs.Statements.{no_arms, arms}
 use Rattle.au_lowered.specs.Binds.{fields_bound}
 use Rattle.au_lowered.specs.Premises.{Once}
 
@@ -16,6 +17,8 @@ module _ {T C : Type 0} where
     BindsOnce (conditional_else at tests block) = TestsBindOnce tests × BlockBindsOnce block
     BindsOnce (while_loop at e block) = BlockBindsOnce block
     BindsOnce (for_loop at name first last block) = BlockBindsOnce block
+    BindsOnce (borrow_in at access x r region block stop) = BlockBindsOnce block
+    BindsOnce (borrow_typed at r t mode x block stop) = BlockBindsOnce block
     BindsOnce other = Unit {0}
 
     -- in a block

@@ -16,7 +16,7 @@ pub fn forms_are_lowered()
     ensures { FormsAreLowered }
 {}
 
-/// A program with references has the code that was written by hand, and this is what the code does.
+/// So has a program with references.
 pub fn references_are_lowered()
     ensures { ReferencesAreLowered }
 {}

@@ -7,12 +7,11 @@ use Rattle.au_type_texts.specs.Types.{ClosedType}
 use Rattle.au_effects.specs.Parts.{along}
 use Rattle.au_lowered.specs.Drafts.{Draft, Written, given, nothing}
 use Rattle.au_lowered.specs.Expressions.{looked_at, numbers_along, operand, part_behind, part_of}
-use Rattle.au_lowered.specs.Slots.{target_behind}
-use Rattle.au_lowering_expressions.specs.Parts.{Part, alone, part_in, part_past}
+use Rattle.au_lowering_expressions.specs.Parts.{Part, part_in, part_past}
 use Rattle.au_lowering_expressions.specs.Wrote.{wrote}
 use Rattle.au_lowering_expressions.proofs.WroteLemmas.{wrote_nothing}
-use Rattle.au_meaning.specs.Expressions.{names_of}
-use Rattle.au_meaning.specs.Names.{Scope, Variable, field_of, path_numbers, variable_of}
+use Rattle.au_meaning.specs.Expressions.{names_of, alone}
+use Rattle.au_meaning.specs.Names.{Scope, Variable, field_of, path_numbers, target_behind, variable_of}
 use Rattle.au_meaning.specs.Views.{Field, View}
 use Rattle.au_syntax.specs.Expressions.{Expression, Node, number, negative, text, truth, nil, path, arrow}
 use Rattle.au_syntax.specs.Expressions.{call, named_call, parenthesized, dereference, borrow, borrow_part}
@@ -78,24 +77,7 @@ module _ {T C : Type 0} (see : View ℕ T C) where
 -- the operand of `!` is the variable that stands alone or in parentheses, if one does
 pub operand_is : {T C : Type 0} (scope : Scope) (e : Expression Bytes T C) (other : Written)
     → operand scope e other ≡ looked_at (alone scope e) other
-operand_is scope (number n l) other = refl
-operand_is scope (negative n l) other = refl
-operand_is scope (text n t) other = refl
-operand_is scope (truth n b) other = refl
-operand_is scope (nil n) other = refl
-operand_is scope (path n x []) other = refl
-operand_is scope (path n x (field ∷ fields)) other = refl
-operand_is scope (arrow n r fields) other = refl
-operand_is scope (call n f args c) other = refl
-operand_is scope (named_call n f args c) other = refl
-operand_is scope (parenthesized n e) other = operand_is scope e other
-operand_is scope (dereference n e) other = refl
-operand_is scope (borrow n mode x) other = refl
-operand_is scope (borrow_part n r fields) other = refl
-operand_is scope (binary n op a b) other = refl
-operand_is scope (negation n e) other = refl
-operand_is scope (typed n e t) other = refl
-operand_is scope (choice n c a b) other = refl
+operand_is scope e other = refl
 
 -- ---- names with and without fields
 

@@ -1,5 +1,4 @@
--- What is found before code is written: the slot and the path of a part of a variable, and the variable that
--- is looked at.
+-- What is found before code is written: the slot and the path of a part of a variable.
 use Rattle.std.specs.Prelude.{◌≡◌, ℕ, ◌+◌, Bool, true, false, List, [], ◌∷◌, ◌++◌, length, set, Option, Some}
 use Rattle.std.specs.Prelude.{None}
 use Rattle.std.specs.Option.{option_map}
@@ -12,15 +11,13 @@ use Rattle.au_low.specs.declared.instructions.Instr.TheVariants as instr
 use Rattle.au_low.specs.declared.instructions.Mode.TheVariants as mode
 use Rattle.au_lowered.specs.Drafts.{Draft, Written, ◌>>◌, does, either, given, plain}
 use Rattle.au_lowered.specs.Expressions.{mention, numbers_along, part_of}
-use Rattle.au_lowered.specs.Slots.{target_behind}
 use Rattle.au_meaning.specs.Expressions.{Operation, compares, computes, is_and, is_or, compared_kind, kind_in}
 use Rattle.au_meaning.specs.Expressions.{names_of}
-use Rattle.au_meaning.specs.Names.{Scope, Variable, variable_of}
+use Rattle.au_meaning.specs.Names.{Scope, Variable, variable_of, target_behind}
 use Rattle.au_meaning.specs.Views.{View}
 use Rattle.au_syntax.specs.declared.expressions.BorrowMode.{BorrowMode}
 use Rattle.au_syntax.specs.declared.expressions.BorrowMode.TheVariants as borrowing
 use Rattle.au_syntax.specs.Names.{Placed}
-use Rattle.au_syntax.specs.Expressions.{Expression, path, parenthesized}
 use Rattle.au_syntax.specs.Plain.{Bytes}
 use Rattle.au_lowering_expressions.specs.Wrote.{first_branch, wrote}
 
@@ -62,12 +59,6 @@ abbrev pub path_code : {T C : Type 0} → View ℕ T C → Scope → T → Bytes
 path_code see scope note name [] = mention see note (variable_of scope name) name
 path_code see scope note name (field ∷ fields) =
     part_of see (variable_of scope name) (names_of (field ∷ fields)) looks
-
--- the variable that stands alone or in parentheses
-abbrev pub alone : {T C : Type 0} → Scope → Expression Bytes T C → Option Variable
-alone scope (path n x []) = variable_of scope x.name
-alone scope (parenthesized n e) = alone scope e
-alone scope e = None
 
 -- ---- operators
 

@@ -3,8 +3,8 @@
 ghost use Rattle.std.specs.Prelude.{◌≡◌, Some};
 ghost use Rattle.std.specs.Option.{option_copied, option_map};
 ghost use Rattle.au_type_texts.specs.Views.{closed_meaning};
-ghost use Rattle.au_lowered.specs.Slots as slots;
 ghost use Rattle.au_meaning.specs.Expressions as meant;
+ghost use Rattle.au_meaning.specs.Names as names;
 
 use au_base::IntKind;
 use au_type_texts::Closed;
@@ -45,7 +45,7 @@ pub fn compared_kind(of: &Closed) -> Option<Option<IntKind>>
 #[tactic(auto, using(au_type_texts::proofs::ClosedLemmas::closed_steps))]
 fn behind_type(of: &Closed) -> Option<&Closed>
     ensures { option_map closed_meaning (option_copied result)
-        ≡ slots.target_behind (Some (closed_meaning of.now)) }
+        ≡ names.target_behind (Some (closed_meaning of.now)) }
 {
     match of {
         Closed::Unit => None,
@@ -61,7 +61,7 @@ fn behind_type(of: &Closed) -> Option<&Closed>
 /// The same, where the type may not be known.
 pub fn target_behind(of: &Option<Closed>) -> Option<&Closed>
     ensures { option_map closed_meaning (option_copied result)
-        ≡ slots.target_behind (option_map closed_meaning of.now) }
+        ≡ names.target_behind (option_map closed_meaning of.now) }
 {
     match of {
         None => None,

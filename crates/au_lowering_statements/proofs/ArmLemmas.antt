@@ -5,13 +5,13 @@ use Rattle.std.proofs.lemmas.List.{append-nil, append_assoc, length-append, leng
 use Rattle.au_typing.specs.Returns.{block_returns}
 use Rattle.au_low.specs.declared.instructions.Instr.TheVariants.{Case, Jump}
 use Rattle.au_lowered.specs.Drafts.{Draft, plain, Written, ◌>>◌, does, unless, count_unless}
-use Rattle.au_lowered.specs.Slots.{tag_in}
 use Rattle.au_lowered.specs.Statements.{ArmsWritten, arm_then, arms_of, cases, count_of_cases, is_last, labels_of}
 use Rattle.au_lowering_expressions.specs.Wrote.{wrote}
 use Rattle.au_lowering_statements.specs.Ends.{AllBelow, Apart, Holed, arm_block, arm_upto, arms_upto, with_jumps}
 use Rattle.au_lowering_statements.proofs.JumpLemmas.{apart_below, jumps_apart, jumps_length, unless_length}
 use Rattle.au_lowering_statements.proofs.TestLemmas.{unless_to}
 use Rattle.au_meaning.specs.Names.{Scope}
+use Rattle.au_meaning.specs.Statements.{tag_told}
 use Rattle.au_meaning.specs.Views.{View}
 use Rattle.au_syntax.specs.Plain.{Bytes}
 use Rattle.au_syntax.specs.Statements.{Arms, no_arms, arms}
@@ -67,7 +67,7 @@ module _ {T C : Type 0} (see : View ℕ T C) (around slot : ℕ) (scope : Scope)
       → ArmsEnd (λ m. arms_upto see around slot scope m note all) (arms_of see around slot scope note all)
   arms_end no_arms = record { long = λ m p. refl; starts = λ m p. refl; end = λ m p is. refl }
   arms_end (arms at name binds body rest) =
-      arm_ends (block_returns body || is_last rest) (tag_in see note name.name)
+      arm_ends (block_returns body || is_last rest) (tag_told see note name.name)
       (arm_block see around slot scope note name.name binds body)
       (λ m. arms_upto see around slot scope m note rest) (arms_of see around slot scope note rest)
       (arms_end rest)

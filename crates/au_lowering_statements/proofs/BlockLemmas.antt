@@ -11,7 +11,7 @@ use Rattle.au_low.specs.declared.instructions.Instr.TheVariants.{Jump}
 use Rattle.au_lowered.specs.Drafts.{Draft, Written, ◌>>◌, nothing, unless}
 use Rattle.au_effects.specs.Parts.{along}
 use Rattle.au_lowered.specs.Slots as slots
-use Rattle.au_lowered.specs.Slots.{after, kept, tag_in}
+use Rattle.au_lowered.specs.Slots.{after, kept}
 use Rattle.au_lowered.specs.Statements as spec
 use Rattle.au_lowered.specs.Statements.{is_last}
 use Rattle.au_lowering_expressions.specs.declared.locals.Local.{Local}
@@ -25,6 +25,7 @@ use Rattle.au_lowering_statements.proofs.CodeLemmas.{ClosedArm, ClosedBind, Clos
 use Rattle.au_lowering_statements.proofs.CodeLemmas.{said_block, said_statement, said_whole}
 use Rattle.au_lowering_statements.proofs.JumpLemmas.{holed_row}
 use Rattle.au_meaning.specs.Names.{Scope, bound_name, field_of}
+use Rattle.au_meaning.specs.Statements.{tag_told}
 use Rattle.au_meaning.specs.Views.{Field}
 use Rattle.au_syntax.specs.Plain.{Bytes}
 use Rattle.au_syntax.specs.Types.{Bound}
@@ -195,7 +196,7 @@ module _ (round : Surroundings) (around slot : ℕ) (scope : Scope) where
       ∙ ap (λ l. wrote left (wrote (one_arm note l x m) d)) flag
       ∙ sym (arms_row m
       (block_returns (block closed x.block) || is_last (arm_all closed (drop (i + 1) xs)))
-      (tag_in (view_in round) note (placed closed x.case).name)
+      (tag_told (view_in round) note (placed closed x.case).name)
       (arm_block (view_in round) around slot scope note (placed closed x.case).name
       (map (bound closed) x.binds.items) (block closed x.block))
       (arms_upto (view_in round) around slot scope m note (arm_all closed (drop (i + 1) xs))) d)

@@ -6,7 +6,10 @@ use Rattle.au_type_texts.specs.declared.types.Closed as closed_type
 use Rattle.au_type_texts.specs.Types.{reads, writes}
 use Rattle.au_type_texts.specs.Views.{closed_meaning}
 use Rattle.au_type_texts.proofs.ClosedLemmas.{reads_means, writes_means}
-use Rattle.au_lowered.specs.Slots.{borrowed}
+use Rattle.au_meaning.specs.Names.{borrowed}
+use Rattle.au_lowering_statements.specs.Views.{reached}
+use Rattle.au_syntax.specs.declared.types.Access.{Access}
+use Rattle.au_syntax.specs.declared.types.Access.TheVariants as access
 use Rattle.au_syntax.specs.declared.expressions.BorrowMode.{BorrowMode}
 use Rattle.au_syntax.specs.declared.expressions.BorrowMode.TheVariants as borrow
 
@@ -25,3 +28,18 @@ write_borrowed mode to copy of is held same =
     ap (λ t. Some t) (writes_means to)
     ∙ ap (λ t. Some (writes t)) (ap closed_meaning held ∙ same)
     ∙ sym (ap (λ m. borrowed m (Some (closed_meaning of))) is)
+
+-- the type of a reference of an access
+pub read_referred : (kind : Access) (to : Box closed_type.Closed Global) (of : closed_type.Closed)
+    → kind ≡ access.Read → to.value ≡ of
+    → closed_meaning (closed_type.Read to) ≡ reached (Some kind) (closed_meaning of)
+read_referred kind to of is held =
+    reads_means to ∙ ap (λ one. reads (closed_meaning one)) held
+    ∙ sym (ap (λ k. reached (Some k) (closed_meaning of)) is)
+
+pub write_referred : (kind : Access) (to : Box closed_type.Closed Global) (of : closed_type.Closed)
+    → kind ≡ access.Write → to.value ≡ of
+    → closed_meaning (closed_type.Write to) ≡ reached (Some kind) (closed_meaning of)
+write_referred kind to of is held =
+    writes_means to ∙ ap (λ one. writes (closed_meaning one)) held
+    ∙ sym (ap (λ k. reached (Some k) (closed_meaning of)) is)

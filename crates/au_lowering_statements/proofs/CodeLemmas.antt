@@ -12,7 +12,7 @@ use Rattle.au_typing.specs.Returns.{block_returns}
 use Rattle.au_low.specs.declared.instructions.Instr.TheVariants as instr
 use Rattle.au_lowered.specs.Drafts.{Draft, Written, does, looped, nothing}
 use Rattle.au_lowered.specs.Expressions.{whole}
-use Rattle.au_lowered.specs.Slots.{mode_of, with_reference}
+use Rattle.au_meaning.specs.Names.{mode_of, with_reference}
 use Rattle.au_lowered.specs.Statements as spec
 use Rattle.au_lowered.specs.Statements.{turns}
 use Rattle.au_lowering_expressions.specs.Wrote.{wrote}

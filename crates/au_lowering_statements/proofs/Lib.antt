@@ -2,6 +2,7 @@ pub mod HoleLemmas
 pub mod CodeLemmas
 pub mod SimpleLemmas
 pub mod JumpLemmas
+pub mod TakenLemmas
 pub mod TestLemmas
 pub mod ArmLemmas
 pub mod BlockLemmas

@@ -10,7 +10,6 @@ use Rattle.au_closed_meanings.specs.Surroundings.{Surroundings, view_in}
 use Rattle.au_typing.specs.Returns.{block_returns}
 use Rattle.au_lowered.specs.Drafts.{Draft, Written, count_unless, does, nothing, plain}
 use Rattle.au_low.specs.declared.instructions.Instr.TheVariants.{Case}
-use Rattle.au_lowered.specs.Slots.{tag_in}
 use Rattle.au_lowered.specs.Statements.{arms_of, cases, count_of_cases, is_last, labels_of, tests_of}
 use Rattle.au_lowering_expressions.specs.Wrote.{wrote}
 use Rattle.au_lowering_expressions.proofs.WroteLemmas.{wrote_nothing}
@@ -24,6 +23,7 @@ use Rattle.au_lowering_statements.proofs.TestLemmas.{ended_written}
 use Rattle.au_lowering_statements.proofs.TestLemmas as tested
 use Rattle.au_lowering_statements.specs.Pieces.{arm_to}
 use Rattle.au_meaning.specs.Names.{Scope}
+use Rattle.au_meaning.specs.Statements.{tag_told}
 use Rattle.au_syntax.specs.Views.{arm_all, block, bound, branch_all, placed}
 
 -- ---- how many are left
@@ -95,12 +95,12 @@ module _ (round : Surroundings) (around slot : ℕ) (scope : Scope) where
       → last ≡ is_last (arm_all closed (drop (i + 1) xs))
       → AllBelow j0 (length d0)
       → Holed (one_arm round around slot scope note last x) j0 d0 j1 d1
-      → more ≡ starts ++ (tag_in (view_in round) note (placed closed x.case).name, length d0) ∷ []
+      → more ≡ starts ++ (tag_told (view_in round) note (placed closed x.case).name, length d0) ∷ []
       → starts ++ begins_at note (drop i xs) (length d0) ≡ whole
       → more ++ begins_at note (drop (i + 1) xs) (length d1) ≡ whole
   begins_step note last xs i x j0 j1 d0 d1 starts more whole inside is flag below holed grows so_far =
       let p = length d0 in
-      let first : Option ℕ × ℕ = (tag_in (view_in round) note (placed closed x.case).name, p) in
+      let first : Option ℕ × ℕ = (tag_told (view_in round) note (placed closed x.case).name, p) in
       let body = arm_block (view_in round) around slot scope note (placed closed x.case).name
       (map (bound closed) x.binds.items) (block closed x.block) in
       let returns = block_returns (block closed x.block) in

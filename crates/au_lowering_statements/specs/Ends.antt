@@ -7,10 +7,11 @@ use Rattle.au_low.specs.declared.instructions.Instr.TheVariants as instr
 use Rattle.au_lowered.specs.Drafts.{Draft, plain, Written, ◌>>◌, does, given, nothing, unless, count_unless}
 use Rattle.au_lowered.specs.Drafts.{when}
 use Rattle.au_lowered.specs.Expressions.{whole}
-use Rattle.au_lowered.specs.Slots.{fields_of_case, tag_in, with_fields}
+use Rattle.au_lowered.specs.Slots.{fields_of_case, with_fields}
 use Rattle.au_lowered.specs.Statements.{ArmsWritten, block, is_last, mode_in}
 use Rattle.au_lowering_expressions.specs.Wrote.{wrote}
 use Rattle.au_meaning.specs.Names.{Scope, Variable}
+use Rattle.au_meaning.specs.Statements.{tag_told}
 use Rattle.au_meaning.specs.Views.{View}
 use Rattle.au_syntax.specs.declared.expressions.BorrowMode.{BorrowMode}
 use Rattle.au_syntax.specs.Plain.{Bytes}
@@ -66,7 +67,7 @@ module _ {T C : Type 0} (see : View ℕ T C) (around slot : ℕ) (scope : Scope)
   abbrev pub arms_upto : ℕ → T → Arms Bytes T C → ℕ → ArmsWritten
   arms_upto m note no_arms place = record { starts = []; code = [] }
   arms_upto m note (arms at name binds body rest) place =
-      arm_upto m (block_returns body || is_last rest) (tag_in see note name.name)
+      arm_upto m (block_returns body || is_last rest) (tag_told see note name.name)
       (arm_block note name.name binds body) (arms_upto m note rest) place
 
 -- ---- jumps

@@ -18,6 +18,7 @@ ghost use Rattle.au_syntax.specs.Views.{bound};
 
 use crate::entering::{bind_fields, further};
 use crate::jumps::end_jumps;
+use crate::taking::{Taken, access_behind, told_type};
 use au_base::{Memory, Name, Sequence};
 use au_closed_meanings::Lookup;
 use au_closed_trees::{ClosedNote, ClosedTrees};
@@ -46,12 +47,12 @@ pub fn put_start<R: Lookup>(
     ensures { OnOk result (starts_said starts.new.items
         ≡ starts_said starts.old.items
         ++ (
-          slots.tag_in (view_in (R.round lookup.now)) (closed_note note.now) name.now,
+          meant.tag_told (view_in (R.round lookup.now)) (closed_note note.now) name.now,
           length (drafts_said out.now.items),
         ) ∷ []) }
 {
     let place = here(out)?;
-    let tag = lookup.tag(&note.of, name);
+    let tag = lookup.tag(told_type(&note.of), name);
     starts.push(Start { tag, place })?;
     Ok(())
 }
@@ -61,9 +62,10 @@ pub fn fields_of_arm<R: Lookup>(lookup: &R, note: &ClosedNote, name: &Name) -> u
     ensures { result
         ≡ length (slots.fields_of_case (view_in (R.round lookup.now)) (closed_note note.now) name.now) }
 {
-    match lookup.tag(&note.of, name) {
+    let of = told_type(&note.of);
+    match lookup.tag(of, name) {
         None => 0,
-        Some(tag) => lookup.count(&note.of, tag),
+        Some(tag) => lookup.count(of, tag),
     }
 }
 
@@ -86,11 +88,17 @@ pub fn enter_arm<R: Lookup>(
         (map (bound closed) binds.now.items) (scope_said scope.old.items)) }
     ensures keeps { OnOk result (Begins scope.old.items scope.new.items) }
 {
-    match lookup.tag(&note.of, name) {
+    let of = told_type(&note.of);
+    match lookup.tag(of, name) {
         None => Ok(slot),
         Some(tag) => {
-            bind_fields(alloc, lookup, &note.of, tag, slot, binds, scope)?;
-            let next = further(slot, lookup.count(&note.of, tag))?;
+            let taken = Taken {
+                of,
+                tag,
+                through: access_behind(&note.of),
+            };
+            bind_fields(alloc, lookup, &taken, slot, binds, scope)?;
+            let next = further(slot, lookup.count(of, tag))?;
             Ok(next)
         }
     }

@@ -8,11 +8,11 @@ ghost use Rattle.au_type_texts.specs.Views.{closed_meaning};
 ghost use Rattle.au_closed_meanings.specs.Surroundings.{view_in};
 ghost use Rattle.au_lowered.specs.Drafts.{does, plain, unless};
 ghost use Rattle.au_lowered.specs.Expressions.{whole};
-ghost use Rattle.au_lowered.specs.Slots as slots;
 ghost use Rattle.au_low.specs.declared.instructions.Instr.TheVariants.{ForStep, ForTest, Look, Store};
 ghost use Rattle.au_lowering_expressions.specs.Views.{drafts_said, scope_said};
 ghost use Rattle.au_lowering_expressions.specs.Wrote.{wrote};
 ghost use Rattle.au_lowering_statements.specs.Views.{Begins};
+ghost use Rattle.au_meaning.specs.Names as names;
 ghost use Rattle.au_meaning.specs.Names.{variable_of, with_name};
 ghost use Rattle.au_syntax.specs.Views.{expression};
 
@@ -29,7 +29,7 @@ use std::alloc::Global;
 
 /// How `borrow` and `borrow!` borrow.
 pub fn mode_of(access: Access) -> BorrowMode
-    ensures { result ≡ slots.mode_of access }
+    ensures { result ≡ names.mode_of access }
 {
     match access {
         Access::Read => BorrowMode::Read,
@@ -40,7 +40,7 @@ pub fn mode_of(access: Access) -> BorrowMode
 /// The type of the reference that a borrow of something of a type gives.
 fn borrowed(alloc: Global, mode: BorrowMode, of: &Closed) -> Result<Option<Closed>, Memory>
     ensures { IfOk result (λ made. option_map closed_meaning made
-        ≡ slots.borrowed mode (Some (closed_meaning of.now))) }
+        ≡ names.borrowed mode (Some (closed_meaning of.now))) }
 {
     let copy = copy_closed(alloc, of)?;
     match mode {
@@ -58,7 +58,7 @@ fn borrowed_of(
     name: &Name,
 ) -> Result<Option<Closed>, Memory>
     ensures { IfOk result (λ made. option_map closed_meaning made
-        ≡ slots.borrowed mode (slots.type_in (variable_of (scope_said scope.now) name.now))) }
+        ≡ names.borrowed mode (names.type_in (variable_of (scope_said scope.now) name.now))) }
 {
     match find_local(scope, name) {
         None => Ok(None),
@@ -79,7 +79,7 @@ pub fn declare_reference(
     scope: &mut Vec<Local>,
 ) -> Result<(), Memory>
     ensures said { OnOk result (scope_said scope.new.items
-        ≡ slots.with_reference mode (variable_of (scope_said scope.old.items) variable.now) slot name.now
+        ≡ names.with_reference mode (variable_of (scope_said scope.old.items) variable.now) slot name.now
         (scope_said scope.old.items)) }
     ensures keeps { OnOk result (Begins scope.old.items scope.new.items) }
 {

@@ -9,15 +9,17 @@ ghost use Rattle.au_closed_meanings.specs.Surroundings.{fields_in, view_in};
 ghost use Rattle.au_closed_meanings.specs.Views.{found_said};
 ghost use Rattle.au_lowered.specs.Slots as slots;
 ghost use Rattle.au_lowering_expressions.specs.Views.{scope_said};
+ghost use Rattle.au_lowering_statements.specs.Views as views;
 ghost use Rattle.au_lowering_statements.specs.Views.{Begins};
 ghost use Rattle.au_meaning.specs.Names as names;
 ghost use Rattle.au_syntax.specs.Views.{bound, renaming, statement};
 
+use crate::taking::{Taken, reached};
 use au_base::{Memory, Name};
 use au_closed_meanings::{Found, Lookup};
 use au_closed_trees::{ClosedNote, ClosedTrees};
 use au_lowering_expressions::{Local, note_of};
-use au_syntax::{Bind, Renamed, Stmt};
+use au_syntax::{Access, Bind, Renamed, Stmt};
 use au_type_texts::{Closed, copy_closed};
 use std::alloc::Global;
 
@@ -72,15 +74,16 @@ fn declare_found(
     scope: &mut Vec<Local>,
     name: &Name,
     slot: u32,
+    through: Option<Access>,
     found: Found<'_>,
 ) -> Result<(), Memory>
     ensures said { OnOk result (scope_said scope.new.items
-        ≡ names.with_name name.now (slot + (found_said found.entry).0) (Some (found_said found.entry).1)
-        (scope_said scope.old.items)) }
+        ≡ names.with_name name.now (slot + (found_said found.entry).0)
+        (Some (views.reached through (found_said found.entry).1)) (scope_said scope.old.items)) }
     ensures keeps { OnOk result (Begins scope.old.items scope.new.items) }
 {
     let slot = further(slot, found.number)?;
-    let of = copy_closed(alloc, found.of)?;
+    let of = reached(alloc, through, found.of)?;
     declare(alloc, scope, name, slot, Some(of))
 }
 
@@ -88,8 +91,7 @@ fn declare_found(
 fn bind_field<R: Lookup>(
     alloc: Global,
     lookup: &R,
-    of: &Closed,
-    tag: u32,
+    taken: &Taken<'_>,
     slot: u32,
     bind: &Bind<ClosedTrees>,
     scope: &mut Vec<Local>,
@@ -97,21 +99,27 @@ fn bind_field<R: Lookup>(
     ensures said { OnOk result (scope_said scope.new.items
         ≡ slots.with_field slot (names.bound_name (bound closed bind.now).name)
         (names.field_of (bound closed bind.now).name.name.name
-        (fields_in (R.round lookup.now) (closed_meaning of.now) tag))
+        (views.fields_taken (R.round lookup.now) taken.now))
         (scope_said scope.old.items)) }
     ensures keeps { OnOk result (Begins scope.old.items scope.new.items) }
 {
-    match lookup.field(of, tag, &bind.name.name.name) {
+    match lookup.field(taken.of, taken.tag, &bind.name.name.name) {
         None => Ok(()),
         Some(found) => {
-            declare_found(alloc, scope, bound_name(&bind.name), slot, found)?;
+            declare_found(
+                alloc,
+                scope,
+                bound_name(&bind.name),
+                slot,
+                taken.through,
+                found,
+            )?;
             Ok(())
         }
     }
 }
 
-/// Declares the variables that the fields of a case of a type are bound to, where the first field has this
-/// slot.
+/// Declares the variables that the fields of a case are bound to, where the first field has this slot.
 ///
 /// # Errors
 ///
@@ -119,20 +127,42 @@ fn bind_field<R: Lookup>(
 pub fn bind_fields<R: Lookup>(
     alloc: Global,
     lookup: &R,
-    of: &Closed,
-    tag: u32,
+    taken: &Taken<'_>,
     slot: u32,
     binds: &Vec<Bind<ClosedTrees>>,
     scope: &mut Vec<Local>,
 ) -> Result<(), Memory>
     ensures said { OnOk result (scope_said scope.new.items
-        ≡ slots.with_fields (fields_in (R.round lookup.now) (closed_meaning of.now) tag) slot
+        ≡ slots.with_fields (views.fields_taken (R.round lookup.now) taken.now) slot
         (map (bound closed) binds.now.items) (scope_said scope.old.items)) }
     ensures keeps { OnOk result (Begins scope.old.items scope.new.items) }
 {
     for one in binds {
-        bind_field(alloc, lookup, of, tag, slot, one, scope)?;
+        bind_field(alloc, lookup, taken, slot, one, scope)?;
     }
+    Ok(())
+}
+
+/// Declares the variables that the fields of a record are bound to, where the first field has this slot.
+fn bind_record<R: Lookup>(
+    alloc: Global,
+    lookup: &R,
+    of: &Closed,
+    slot: u32,
+    binds: &Vec<Bind<ClosedTrees>>,
+    scope: &mut Vec<Local>,
+) -> Result<(), Memory>
+    ensures said { OnOk result (scope_said scope.new.items
+        ≡ slots.with_fields (fields_in (R.round lookup.now) (closed_meaning of.now) 0) slot
+        (map (bound closed) binds.now.items) (scope_said scope.old.items)) }
+    ensures keeps { OnOk result (Begins scope.old.items scope.new.items) }
+{
+    let taken = Taken {
+        of,
+        tag: 0,
+        through: None,
+    };
+    bind_fields(alloc, lookup, &taken, slot, binds, scope)?;
     Ok(())
 }
 
@@ -176,7 +206,7 @@ pub fn enter<R: Lookup>(
             Ok(())
         }
         Stmt::Destructure(_, binds, value) => {
-            bind_fields(alloc, lookup, &note_of(value).of, 0, slot, binds, scope)?;
+            bind_record(alloc, lookup, &note_of(value).of, slot, binds, scope)?;
             Ok(())
         }
         Stmt::Skip(_) => Ok(()),
@@ -196,7 +226,7 @@ pub fn enter<R: Lookup>(
 
 /// How many fields a record has, by the note of an expression.
 pub fn fields_of<R: Lookup>(lookup: &R, note: &ClosedNote) -> u32
-    ensures { result ≡ length (slots.fields_in (view_in (R.round lookup.now)) (closed_note note.now) 0) }
+    ensures { result ≡ length (slots.fields_in (view_in (R.round lookup.now)) (closed_note note.now)) }
 {
     lookup.count(&note.of, 0)
 }

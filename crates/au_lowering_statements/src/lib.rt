@@ -1,6 +1,7 @@
 //! The code of blocks in closed trees, behind other code, with texts and types that stand for themselves, and
 //! what it is made of: the variables that statements declare and their slots, statements that hold no block,
-//! the jumps to ends that are found later, where the arms of cases begin, and how many slots are in use.
+//! the jumps to ends that are found later, the fields that are bound, where the arms of cases begin, and how many
+//! slots are in use.
 #![tactic(auto)]
 
 pub mod arms;
@@ -11,9 +12,11 @@ pub mod pieces;
 pub mod rooms;
 pub mod simple;
 pub mod statements;
+pub mod taking;
 pub mod writers;
 
 pub use entering::{declare, further};
 pub use rooms::room_of_block;
 pub use statements::write_block;
+pub use taking::Taken;
 pub use writers::Writer;

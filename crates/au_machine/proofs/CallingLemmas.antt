@@ -6,7 +6,8 @@ use Rattle.au_base.specs.declared.kinds.IntKind.{IntKind}
 use Rattle.au_ints.specs.declared.operations.WrapOp.{WrapOp}
 use Rattle.au_shipped.specs.declared.prims.ShippedCall.{ShippedCall}
 use Rattle.au_shipped.specs.declared.prims.ShippedCall.TheVariants as prim
-use Rattle.au_effects.specs.Calls.{arity, shipped, given, acquire_terminal, reference_in, root_in}
+use Rattle.au_effects.specs.Calls.{arity, shipped, given, acquire_terminal, root_in}
+use Rattle.au_effects.specs.References.{reference_in}
 use Rattle.au_low.specs.Machines.{Low, LowWorld, Machine, stuck}
 use Rattle.au_low.specs.Instructions.{answered}
 
@@ -20,8 +21,8 @@ given_nothing (Some one) go each = each one
 not_acquired : (w : LowWorld) (a : Low) (m : Machine) → stuck ≡ answered (acquire_terminal None w a) m
 not_acquired w a m = sym (ap (λ (one : Answer ℕ ℕ). answered one m)
     (given_nothing (reference_in a) _ (λ one.
-    given_nothing (at one.1 w) _ (λ held.
-    given_nothing (root_in held) _ (λ id. refl)))))
+    given_nothing (at one.1 w) _ (λ held_value.
+    given_nothing (root_in held_value) _ (λ id. refl)))))
 
 -- a call that isn't one of these comes to nothing with one argument
 pub record NoneOfOne (call : ShippedCall) : Type 0 where

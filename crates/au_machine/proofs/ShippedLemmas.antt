@@ -64,13 +64,13 @@ from_none found go m is = ap (λ (it : Option _). answered (given it go) m) is
 module _ {A : Type 0} (form : Low → Option A) (w : LowWorld) (go : ℕ → A → Answer ℕ ℕ)
     (value : Low) (m : Machine) where
   pub use_found : (borrow : ℕ) (one : A) → Some (borrow, one) ≡ reached_by form value w
-      → answered (go borrow one) m ≡ answered (use_of value w (λ b place held. given (form held) (go b))) m
+      → answered (go borrow one) m ≡ answered (use_of value w (λ b place held_value. given (form held_value) (go b))) m
   use_found borrow one is =
       ap (λ (it : Option (ℕ × A)). answered (given it (λ pair. go pair.0 pair.1)) m) is
       ∙ ap (λ (a : Answer ℕ ℕ). answered a m) (use_is form w go value)
 
   pub use_none : None ≡ reached_by form value w
-      → machine.stuck ≡ answered (use_of value w (λ b place held. given (form held) (go b))) m
+      → machine.stuck ≡ answered (use_of value w (λ b place held_value. given (form held_value) (go b))) m
   use_none is =
       ap (λ (it : Option (ℕ × A)). answered (given it (λ pair. go pair.0 pair.1)) m) is
       ∙ ap (λ (a : Answer ℕ ℕ). answered a m) (use_is form w go value)

@@ -10,7 +10,7 @@ ghost use Rattle.au_low.specs.Instructions.{
   borrowed_place,
   is_of_slot,
   new_reference,
-  reference_at,
+  reference_in_slot,
   slot_part,
   stores,
   closes_to,
@@ -68,9 +68,9 @@ impl State {
         slot: u32,
     ) -> Result<Option<(Start, Sequence<u32>)>, Memory>
         ensures { IfOk result (λ found. option_map place_in found
-            ≡ along (reference_at slot (machine_of self.now)) (λ one. Some one.1)) }
+            ≡ along (reference_in_slot slot (machine_of self.now)) (λ one. Some one.1)) }
     {
-        let Some(cell) = self.held(slot) else {
+        let Some(cell) = self.held_value(slot) else {
             return Ok(None);
         };
         let Some(one) = reference_in(cell) else {

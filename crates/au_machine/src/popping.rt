@@ -46,8 +46,8 @@ fn take_at(left: &mut Vec<Option<Cell>>, index: u32) -> Option<Cell>
     if left.len() <= index {
         return None;
     }
-    let held = mem::replace(&mut left[index], None);
-    held
+    let held_value = mem::replace(&mut left[index], None);
+    held_value
 }
 
 /// Arguments that are still there, in their order; they come last first.

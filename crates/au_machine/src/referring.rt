@@ -1,10 +1,9 @@
 //! The instructions on references.
 
 ghost use Rattle.std.specs.Prelude.{◌≡◌, ◌<◌, IfOk};
-ghost use Rattle.au_effects.specs.Values.{reference};
-ghost use Rattle.au_effects.specs.Calls.{reference_in};
+ghost use Rattle.au_effects.specs.References.{reference_in, referring, reference_along};
 ghost use Rattle.au_low.specs.Machines.{pushes, popping, having};
-ghost use Rattle.au_low.specs.Instructions.{reference_at, reads_at, place_along, puts, uses};
+ghost use Rattle.au_low.specs.Instructions.{reference_in_slot, pushes_behind, puts_behind};
 ghost use Rattle.au_machine.specs.States.{machine_of, turned, most_place, IsQuiet, came_still};
 
 use crate::states::{State, Turn};
@@ -24,7 +23,7 @@ impl State {
     pub fn deref(&mut self, alloc: Global) -> Result<Turn, Memory>
         requires { self.now.place < most_place }
         ensures is { IfOk result (λ turn. turned turn self.new ≡ popping (machine_of self.old).operands
-            (machine_of self.old) (λ value m. having (reference_in value) (λ one. reads_at one.0 one.1 m))) }
+            (machine_of self.old) (λ value m. having (reference_in value) (λ one. pushes_behind one m))) }
         ensures quiet { IsQuiet (came_still result) self.old.world self.new.world }
     {
         let Some(cell) = self.pop() else {
@@ -33,10 +32,10 @@ impl State {
         let Some(one) = reference_in(&cell) else {
             return Ok(Turn::Stuck);
         };
-        let Some(held) = self.world.at(one) else {
+        let Some(held_value) = self.world.at(one) else {
             return Ok(Turn::Stuck);
         };
-        let copy = copy(alloc, held)?;
+        let copy = copy(alloc, held_value)?;
         self.world.tell_use(one.borrow)?;
         self.push(copy)
     }
@@ -46,21 +45,21 @@ impl State {
     pub fn read(&mut self, alloc: Global, slot: u32, path: &[u32]) -> Result<Turn, Memory>
         requires { self.now.place < most_place }
         ensures is { IfOk result (λ turn. turned turn self.new
-            ≡ having (reference_at slot (machine_of self.old))
-            (λ one. reads_at one.0 (place_along one.1 path.now) (machine_of self.old))) }
+            ≡ having (reference_in_slot slot (machine_of self.old))
+            (λ one. pushes_behind (reference_along one path.now) (machine_of self.old))) }
         ensures quiet { IsQuiet (came_still result) self.old.world self.new.world }
     {
-        let Some(cell) = self.held(slot) else {
+        let Some(cell) = self.held_value(slot) else {
             return Ok(Turn::Stuck);
         };
         let Some(one) = reference_in(cell) else {
             return Ok(Turn::Stuck);
         };
         let borrow = one.borrow;
-        let Some(held) = self.world.at_behind(one, path) else {
+        let Some(held_value) = self.world.at_behind(one, path) else {
             return Ok(Turn::Stuck);
         };
-        let copy = copy(alloc, held)?;
+        let copy = copy(alloc, held_value)?;
         self.world.tell_use(borrow)?;
         self.push(copy)
     }
@@ -70,11 +69,11 @@ impl State {
     pub fn part_of(&mut self, alloc: Global, slot: u32, path: &[u32]) -> Result<Turn, Memory>
         requires { self.now.place < most_place }
         ensures is { IfOk result (λ turn. turned turn self.new
-            ≡ having (reference_at slot (machine_of self.old))
-            (λ one. pushes (reference one.0 (place_along one.1 path.now)) (machine_of self.old))) }
+            ≡ having (reference_in_slot slot (machine_of self.old))
+            (λ one. pushes (referring (reference_along one path.now)) (machine_of self.old))) }
         ensures quiet { IsQuiet (came_still result) self.old.world self.new.world }
     {
-        let Some(cell) = self.held(slot) else {
+        let Some(cell) = self.held_value(slot) else {
             return Ok(Turn::Stuck);
         };
         let Some(one) = reference_in(cell) else {
@@ -90,8 +89,9 @@ impl State {
     pub fn put_through(&mut self, alloc: Global, slot: u32, path: &[u32]) -> Result<Turn, Memory>
         requires { self.now.place < most_place }
         ensures is { IfOk result (λ turn. turned turn self.new
-            ≡ having (reference_at slot (machine_of self.old)) (λ one. popping (machine_of self.old).operands
-            (machine_of self.old) (λ value m. puts (place_along one.1 path.now) value (uses one.0 m)))) }
+            ≡ having (reference_in_slot slot (machine_of self.old))
+            (λ one. popping (machine_of self.old).operands (machine_of self.old)
+            (λ value m. puts_behind (reference_along one path.now) value m))) }
         ensures quiet { IsQuiet (came_still result) self.old.world self.new.world }
     {
         let Some(cell) = self.pop() else {

@@ -137,7 +137,7 @@ impl State {
 
     /// What a slot of the running frame holds.
     #[inline(always)]
-    pub fn held(&self, slot: u32) -> Option<&Cell>
+    pub fn held_value(&self, slot: u32) -> Option<&Cell>
         ensures is { option_map low (option_copied result) ≡ in_slot slot (machine_of self.now) }
         ensures slots { IfSome result (λ cell. slot < length self.now.world.slots.0) }
     {
@@ -158,14 +158,14 @@ impl State {
 
     /// Puts a value into a slot of the running frame, or empties it.
     #[inline(always)]
-    pub fn fill(&mut self, slot: u32, held: Option<Cell>) -> Option<Cell>
+    pub fn fill(&mut self, slot: u32, held_value: Option<Cell>) -> Option<Cell>
         requires { slot < length self.old.world.slots.0 }
-        ensures new { machine_of self.new ≡ slot_set slot (option_map low held) (machine_of self.old) }
+        ensures new { machine_of self.new ≡ slot_set slot (option_map low held_value) (machine_of self.old) }
         ensures old { option_map low result ≡ in_slot slot (machine_of self.old) }
         ensures place { self.new.place ≡ self.old.place }
         ensures told { told self.new.world ≡ told self.old.world }
     {
-        self.world.set_slot(slot, held)
+        self.world.set_slot(slot, held_value)
     }
 
     /// Puts a value into a slot of the running frame, and goes on.
@@ -191,7 +191,7 @@ impl State {
             ≡ puts (slot_part slot [] (machine_of self.old)) (low cell) (machine_of self.old) }
         ensures quiet { IsQuiet (is_still result) self.old.world self.new.world }
     {
-        match self.held(slot) {
+        match self.held_value(slot) {
             Some(_) => {
                 self.fill(slot, Some(cell));
                 self.go()

@@ -23,8 +23,8 @@ fn terminal_reached(world: &World, reference: &Cell) -> Option<(u64, u64)>
     ensures { result ≡ reached_by call.terminal_in (low reference.now) (world_of world.now) }
 {
     let one = reference_in(reference)?;
-    let held = world.at(one)?;
-    let id = terminal_in(held)?;
+    let held_value = world.at(one)?;
+    let id = terminal_in(held_value)?;
     Some((one.borrow, id))
 }
 

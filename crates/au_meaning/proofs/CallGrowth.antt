@@ -5,7 +5,9 @@ use Rattle.std.proofs.Math.Nat.{le_refl}
 use Rattle.au_type_texts.specs.Types.{ClosedType}
 use Rattle.au_effects.specs.Answers as answer
 use Rattle.au_effects.specs.Answers.{Answer}
-use Rattle.au_effects.specs.Calls.{with_elements, reference_in, root_in, box_in, buffer_in, terminal_in}
+use Rattle.au_effects.specs.References.{reference_in, read_behind, put_behind}
+use Rattle.au_effects.specs.Cases.{case_behind, told_apart}
+use Rattle.au_effects.specs.Calls.{with_elements, root_in, box_in, buffer_in, terminal_in}
 use Rattle.au_effects.specs.Calls.{elements_in, natural_in, index_in, untyped, given, of_none, of_one, of_two}
 use Rattle.au_effects.specs.Calls.{of_three, use_of, buffer_use, last_taken, element_copied, element_replaced}
 use Rattle.au_effects.specs.Calls.{buffer_ended, print_text, print_number, print_truth, span_length}
@@ -18,8 +20,9 @@ use Rattle.au_base.specs.declared.kinds.IntKind.TheVariants.{Nat8, Index}
 use Rattle.std.specs.Prelude.{◌-◌, length, pos, codes, slice_get}
 use Rattle.au_effects.specs.Parts.{along, part}
 use Rattle.au_effects.specs.Places.{at, content_in, base_at, base_set, set_over, exchanged}
-use Rattle.au_effects.specs.Values.{Base, Place, name_of, content_of, number, unit}
-use Rattle.au_effects.specs.Worlds.{Held, nothing, content, elements, used, tells, bears, ends, spends}
+use Rattle.au_effects.specs.Values.{Base, Place, name_of, content_of, number, unit, made, reference}
+use Rattle.au_effects.specs.Worlds.{Held, nothing, content, elements, used, closed, tells, bears, ends}
+use Rattle.au_effects.specs.Worlds.{spends, opens, closes}
 use Rattle.au_shipped.specs.declared.prims.ShippedCall.{ShippedCall}
 use Rattle.au_shipped.specs.declared.prims.ShippedCall.TheVariants as prim
 use Rattle.au_syntax.specs.Plain.{Bytes}
@@ -54,8 +57,8 @@ pub kept_spends : (birth : Option ℕ) (s : Store) → Kept s (spends birth s)
 kept_spends None s = begins_refl s.deeds
 kept_spends (Some id) s = told_if s.keeps s.deeds _
 
--- a value with a store, if there are both
-abbrev pub PairKept : Store → Option (Value × Store) → Type 0
+-- something with a store, if there are both
+abbrev pub PairKept : {A : Type 0} → Store → Option (A × Store) → Type 0
 PairKept s None = Unit {0}
 PairKept s (Some pair) = Kept s pair.1
 
@@ -75,6 +78,49 @@ over_kept place new s (Some base) = old_kept (part place.path base) place _ s
 
 pub exchanged_kept : (place : Place) (new : Value) (s : Store) → PairKept s (exchanged place new s)
 exchanged_kept place new s = over_kept place new s (base_at place.base s)
+
+-- what references do
+pair_after : (s later : Store) (o : Option (Value × Store)) → Kept s later → PairKept later o → PairKept s o
+pair_after s later None k after = tt
+pair_after s later (Some pair) k after = begins_trans s.deeds later.deeds pair.1.deeds k after
+
+pub put_kept : (one : ℕ × Place) (new : Value) (s : Store) → PairKept s (put_behind one new s)
+put_kept one new s =
+    pair_after s (tells (used one.0) s) (put_behind one new s) (kept_tells (used one.0) s)
+    (exchanged_kept one.1 new (tells (used one.0) s))
+
+copy_kept : (borrow : ℕ) (s : Store) (held : Option Value)
+    → PairKept s (along held (λ value. Some (value, tells (used borrow) s)))
+copy_kept borrow s None = tt
+copy_kept borrow s (Some value) = kept_tells (used borrow) s
+
+pub read_kept : (one : ℕ × Place) (s : Store) → PairKept s (read_behind one s)
+read_kept one s = copy_kept one.0 s (at one.1 s)
+
+parts_kept : {A : Type 0} (s later : Store) (parts : Option A) → Kept s later
+    → PairKept s (along parts (λ parts. Some (parts, later)))
+parts_kept s later None k = tt
+parts_kept s later (Some parts) k = k
+
+case_kept : (one : ℕ × Place) (s : Store) (held : Option (Value × Store)) → PairKept s held
+    → PairKept s (along held (λ pair. along (case_behind one pair.0) (λ parts. Some (parts, pair.1))))
+case_kept one s None k = tt
+case_kept one s (Some pair) k = parts_kept s pair.1 (case_behind one pair.0) k
+
+pub told_kept : (value : Value) (s : Store) → PairKept s (told_apart value s)
+told_kept (made tag birth parts) s = kept_spends birth s
+told_kept (reference borrow place) s =
+    case_kept (borrow, place) s (read_behind (borrow, place) s) (read_kept (borrow, place) s)
+told_kept other s = tt
+
+pub kept_opens : (s : Store) → Kept s (opens s)
+kept_opens s = told_if s.keeps s.deeds _
+
+pub kept_closes : (borrows : List ℕ) (s : Store) → Kept s (closes borrows s)
+kept_closes [] s = begins_refl s.deeds
+kept_closes (borrow ∷ rest) s =
+    begins_trans s.deeds (tells (closed borrow) s).deeds (closes rest (tells (closed borrow) s)).deeds
+    (kept_tells (closed borrow) s) (kept_closes rest (tells (closed borrow) s))
 
 -- ---- answers
 
@@ -239,9 +285,7 @@ module _ (f : Bytes → List ℕ) (of : Option ClosedType) (s : Store) (args : L
   told_shipped prim.Swap =
       told_untyped s of _ (told_two s args (swap_call s) (λ a new.
       told_given s (reference_in a) _ (λ one.
-      told_pair s (exchanged one.1 new s) _ (exchanged_kept one.1 new s) (λ pair k.
-      told_gives (begins_trans s.deeds pair.1.deeds (tells (used one.0) pair.1).deeds k
-      (kept_tells (used one.0) pair.1))))))
+      told_pair s (put_behind one new s) _ (put_kept one new s) (λ pair k. told_gives k))))
   told_shipped prim.MakeBox =
       told_one s args (make_box of s) (λ a. told_given s of _ (λ t.
       told_gives (kept_bears t (codes "Standard.Box") (content a) s)))

@@ -2,6 +2,7 @@
 use Rattle.std.proofs.Common.{ℕ, Bool, true, false, List, [], ◌∷◌, Option, Some, None, ℤ, neg_ℤ}
 use Rattle.au_base.specs.declared.kinds.IntKind.{IntKind}
 use Rattle.au_effects.specs.Numbers.{computed, compared, negated}
+use Rattle.au_effects.specs.References.{reference_in}
 use Rattle.au_ints.specs.Ranges.{is_of_kind}
 use Rattle.au_syntax.specs.Expressions.{Expression, Expressions, Arguments, number, negative, text, truth}
 use Rattle.au_syntax.specs.Expressions.{nil, path, arrow, call, named_call, parenthesized, dereference}
@@ -11,13 +12,14 @@ use Rattle.au_syntax.specs.Plain.{Bytes}
 use Rattle.au_meaning.specs.Acts.{by_position, by_labels}
 use Rattle.au_meaning.specs.Expressions.{Operation, computes, compares, is_and, is_or, operation_of, kind_in}
 use Rattle.au_meaning.specs.Expressions.{compared_kind, note_of, names_of, labels, labelled, literal, copies}
-use Rattle.au_meaning.specs.Expressions.{mentions, looks_into, operates, acts, calls, joins, eval, eval_all}
-use Rattle.au_meaning.specs.Expressions.{eval_named}
-use Rattle.au_meaning.specs.Names.{Scope, Variable, variable_of, path_numbers}
+use Rattle.au_meaning.specs.Expressions.{alone, operand, mentions, looks_into, reaches, operates, acts, calls}
+use Rattle.au_meaning.specs.Expressions.{joins, eval, eval_all, eval_named, whole}
+use Rattle.au_meaning.specs.Names.{Scope, Variable, variable_of, path_numbers, target_behind}
 use Rattle.au_meaning.specs.Ticks.{Action}
 use Rattle.au_meaning.specs.Views.{View, Callee, Act, invokes, makes, ships}
 use Rattle.au_meaning.specs.Worlds.{Value}
-use Rattle.au_meaning.proofs.ActGrowth.{looks_grows, moves_grows, makes_grows}
+use Rattle.au_meaning.proofs.ActGrowth.{looks_grows, moves_grows, refers_grows, reads_grows, lends_grows}
+use Rattle.au_meaning.proofs.ActGrowth.{closing_grows, makes_grows}
 use Rattle.au_meaning.proofs.CallGrowth.{ships_grows}
 use Rattle.au_meaning.proofs.Growing.{Grows, grows_bind, grows_pure, grows_stuck, grows_tick, grows_needing}
 use Rattle.au_meaning.proofs.Growing.{grows_where, grows_chosen, grows_comes}
@@ -28,6 +30,10 @@ literal_grows kind z = grows_needing kind (λ one. grows_where (is_of_kind one z
 copies_grows : (free : Bool) (name : ℕ) → Grows (copies free name) (copies free name)
 copies_grows true name = looks_grows name []
 copies_grows false name = moves_grows name
+
+operand_grows : {m m2 : Action Value} (x : Option Variable) → Grows m m2 → Grows (operand x m) (operand x m2)
+operand_grows None g = g
+operand_grows (Some x) g = grows_tick (looks_grows x.number [])
 
 module _ {I T C : Type 0} (see : View I T C) where
   mentions_grows : (note : T) (x : Option Variable) (name : Bytes)
@@ -40,6 +46,12 @@ module _ {I T C : Type 0} (see : View I T C) where
   looks_into_grows None names = grows_stuck
   looks_into_grows (Some x) names =
       grows_needing (path_numbers (λ of. see.fields of 0) x.of names) (λ path. looks_grows x.number path)
+
+  pub reaches_grows : (r : Option Variable) (names : List Bytes)
+      → Grows (reaches see r names) (reaches see r names)
+  reaches_grows None names = grows_stuck
+  reaches_grows (Some r) names =
+      grows_needing (path_numbers (λ of. see.fields of 0) (target_behind r.of) names) (refers_grows r.number)
 
   operates_grows : (op : Operation) (whole first : T) (a b : Value)
       → Grows (operates see op whole first a b) (operates see op whole first a b)
@@ -84,7 +96,8 @@ module _ {I T C : Type 0} (see : View I T C) (invoke invoke2 : I → List Value 
     eval_grows scope (path n x []) = grows_tick (mentions_grows see n.note (variable_of scope x.name) x.name)
     eval_grows scope (path n x (field ∷ fields)) =
         grows_tick (looks_into_grows see (variable_of scope x.name) (names_of (field ∷ fields)))
-    eval_grows scope (arrow n r fields) = grows_stuck
+    eval_grows scope (arrow n r fields) =
+        grows_tick (grows_bind (reaches_grows see (variable_of scope r.name) (names_of fields)) reads_grows)
     eval_grows scope (call n f args c) =
         grows_bind (all_grow scope args) (λ values.
         grows_tick (calls_grows (see.callee n.note c f.name) (by_position values)))
@@ -92,9 +105,14 @@ module _ {I T C : Type 0} (see : View I T C) (invoke invoke2 : I → List Value 
         grows_bind (named_grow scope args) (λ values.
         grows_tick (calls_grows (see.callee n.note c f.name) (by_labels (labelled (labels args) values))))
     eval_grows scope (parenthesized n e) = eval_grows scope e
-    eval_grows scope (dereference n e) = grows_stuck
-    eval_grows scope (borrow n mode x) = grows_stuck
-    eval_grows scope (borrow_part n r fields) = grows_stuck
+    eval_grows scope (dereference n e) =
+        grows_bind (operand_grows (alone scope e) (eval_grows scope e)) (λ x.
+        grows_tick (grows_needing (reference_in x) reads_grows))
+    eval_grows scope (borrow n mode x) =
+        grows_tick (grows_needing (variable_of scope x.name) (λ x. lends_grows mode x.number))
+    eval_grows scope (borrow_part n r fields) =
+        grows_tick (grows_bind (reaches_grows see (variable_of scope r.name) (names_of fields)) (λ one.
+        grows_pure))
     eval_grows scope (binary n op a b) =
         joins_grows (operation_of op) n.note (note_of a) (eval_grows scope a) (eval_grows scope b)
     eval_grows scope (negation n e) =
@@ -115,3 +133,7 @@ module _ {I T C : Type 0} (see : View I T C) (invoke invoke2 : I → List Value 
     named_grow scope no_arguments = grows_pure
     named_grow scope (arguments label e rest) =
         grows_bind (eval_grows scope e) (λ value. grows_bind (named_grow scope rest) (λ values. grows_pure))
+
+  pub whole_grows : (scope : Scope) (e : Expression Bytes T C)
+      → Grows (whole see invoke scope e) (whole see invoke2 scope e)
+  whole_grows scope e = closing_grows (eval_grows scope e)

@@ -7,22 +7,22 @@ use Rattle.au_effects.specs.Worlds.{nothing}
 use Rattle.au_meaning.specs.Acts.{new_names}
 use Rattle.au_meaning.specs.Names.{names_in_block}
 use Rattle.au_meaning.specs.Laws.{Continues, MoreTicksTellMore, EndingsStay, TicksAreSpent, is_over}
-use Rattle.au_meaning.specs.Meanings.{scope_of, leaves_frame, enters, call_at, exit_in, seen, first_world}
+use Rattle.au_meaning.specs.Meanings.{scope_of, returned, enters, call_at, exit_in, seen, first_world}
 use Rattle.au_meaning.specs.Meanings.{root_born, begun, parameters_of}
 use Rattle.au_meaning.specs.Statements.{Flow, falls, returns}
 use Rattle.au_meaning.specs.Ticks.{Out, Action, gives, aborts, cut, no_rule}
 use Rattle.au_meaning.specs.Views.{Field, Function}
 use Rattle.au_meaning.specs.Worlds.{Value, World, Ending, Outcome, abort, stuck}
-use Rattle.au_meaning.proofs.ActGrowth.{store_continues, begins_continues, ends_continues}
+use Rattle.au_meaning.proofs.ActGrowth.{store_continues, begins_continues, ends_continues, closing_grows}
 use Rattle.au_meaning.proofs.CallGrowth.{kept_bears}
 use Rattle.au_meaning.proofs.Growing.{world_in, continues_refl, proper_over, More, Grows, grows_bind}
 use Rattle.au_meaning.proofs.Growing.{grows_then, grows_pure, grows_stuck, grows_over, grows_where}
 use Rattle.au_meaning.proofs.Growing.{grows_does}
 use Rattle.au_meaning.proofs.StatementGrowth.{block_grows}
 
-leaves_grows : (flow : Flow) → Grows (leaves_frame flow) (leaves_frame flow)
-leaves_grows falls = grows_stuck
-leaves_grows (returns value) = grows_then (grows_does ends_continues) grows_pure
+returned_grows : (flow : Flow) → Grows (returned flow) (returned flow)
+returned_grows falls = grows_stuck
+returned_grows (returns value) = grows_pure
 
 module _ {I T C : Type 0} where
   enters_grows : (invoke invoke2 : I → List Value → Action Value)
@@ -34,8 +34,9 @@ module _ {I T C : Type 0} where
   enters_grows invoke invoke2 deeper depth more le (Some f) args =
       grows_where (length args == length f.parameters) (grows_then (grows_does (begins_continues
       (new_names f.first args (names_in_block f.body))))
-      (grows_bind (block_grows f.view invoke invoke2 deeper depth more le (f.first + length args)
-      (scope_of f) f.body) leaves_grows))
+      (grows_bind (closing_grows (grows_bind (block_grows f.view invoke invoke2 deeper depth more le
+      (f.first + length args) (scope_of f) f.body) returned_grows)) (λ value.
+      grows_then (grows_does ends_continues) grows_pure)))
 
   module _ (functions : I → Option (Function I T C)) where
     -- a call goes on, at each depth

@@ -5,6 +5,7 @@ use Rattle.au_base.specs.declared.kinds.IntKind.{IntKind}
 use Rattle.au_effects.specs.Numbers.{number_in, same_kind}
 use Rattle.au_effects.specs.Parts.{along}
 use Rattle.au_effects.specs.Values as values
+use Rattle.au_syntax.specs.declared.expressions.BorrowMode.{BorrowMode}
 use Rattle.au_syntax.specs.Plain.{Bytes}
 use Rattle.au_syntax.specs.Statements.{Statement, Statements, Branches, Arms, skip, declare, destructure}
 use Rattle.au_syntax.specs.Statements.{assign, assign_through, conditional, conditional_else, case_of}
@@ -14,16 +15,20 @@ use Rattle.au_syntax.specs.Types.{Bound}
 use Rattle.au_meaning.specs.Acts.{bound_counted}
 use Rattle.au_meaning.specs.Expressions.{names_of, note_of}
 use Rattle.au_meaning.specs.Names.{Scope, Variable, variable_of, with_bound, path_numbers, names_in}
-use Rattle.au_meaning.specs.Names.{names_in_block, names_in_tests}
-use Rattle.au_meaning.specs.Statements.{Flow, falls, returns, and_then, leaves, within, while_turns}
-use Rattle.au_meaning.specs.Statements.{for_turns, both_numbers, ranges, either, binds_fields, fields_noted}
-use Rattle.au_meaning.specs.Statements.{means_case, after, with_counter, assigns, takes_apart, run, run_all}
-use Rattle.au_meaning.specs.Statements.{run_tests, run_arms, run_block}
+use Rattle.au_meaning.specs.Names.{names_in_block, names_in_tests, mode_of, with_reference}
+use Rattle.au_meaning.specs.Statements.{Flow, falls, returns, and_then, empties, within, while_turns}
+use Rattle.au_meaning.specs.Statements.{for_turns, both_numbers, ranges, lending, binds_borrow, either}
+use Rattle.au_meaning.specs.Statements.{binds_fields, fields_noted, fields_told, means_case, after}
+use Rattle.au_meaning.specs.Statements.{with_counter, assigns}
+use Rattle.au_meaning.specs.Statements.{assigns_behind, takes_apart, run, run_all, run_tests, run_arms}
+use Rattle.au_meaning.specs.Statements.{run_block}
 use Rattle.au_meaning.specs.Ticks.{Action}
 use Rattle.au_meaning.specs.Views.{Field, View}
 use Rattle.au_meaning.specs.Worlds.{Value}
-use Rattle.au_meaning.proofs.ActGrowth.{values_continue, emptied_continues, holds_grows, sets_grows, apart_grows}
-use Rattle.au_meaning.proofs.ExpressionGrowth.{eval_grows}
+use Rattle.au_meaning.proofs.ActGrowth.{values_continue, emptied_continues, holds_grows, sets_grows}
+use Rattle.au_meaning.proofs.ActGrowth.{puts_grows, lends_grows, closes_grows, counts_grows, apart_grows}
+use Rattle.au_meaning.proofs.ActGrowth.{tells_grows}
+use Rattle.au_meaning.proofs.ExpressionGrowth.{reaches_grows, eval_grows, whole_grows}
 use Rattle.au_meaning.proofs.Growing.{Proper, proper_bind, proper_pure, proper_over, proper_tick}
 use Rattle.au_meaning.proofs.Growing.{proper_chosen, proper_if, Grows, grows_bind, grows_then, grows_pure}
 use Rattle.au_meaning.proofs.Growing.{grows_stuck, grows_over, grows_tick, grows_needing, grows_where}
@@ -37,12 +42,12 @@ and_proper : {m : Action Flow} (flow : Flow) → Proper m → Proper (and_then m
 and_proper falls p = p
 and_proper (returns value) p = proper_pure
 
-leaves_grow : (name count : ℕ) (flow : Flow) → Grows (leaves name count flow) (leaves name count flow)
-leaves_grow name count flow = grows_then (grows_does (emptied_continues name count)) grows_pure
+empties_grow : (name count : ℕ) → Grows (empties name count) (empties name count)
+empties_grow name count = grows_then (grows_does (emptied_continues name count)) grows_pure
 
 within_grows : {m m2 : Action Flow} (name count : ℕ) → Grows m m2
     → Grows (within name count m) (within name count m2)
-within_grows name count g = grows_bind g (leaves_grow name count)
+within_grows name count g = grows_bind g (λ flow. and_grows flow (empties_grow name count))
 
 -- ---- loops
 
@@ -95,6 +100,20 @@ ranges_grow turns more le g a b =
     both_grow (number_in a) (number_in b) (λ kind first last.
     grows_if (int_lt last first) grows_pure (for_grows turns more le (g kind) first last))
 
+-- ---- borrows
+
+lending_grows : {m m2 : Action (Unit {0})} {body body2 : Action Flow} → Grows m m2 → Grows body body2
+    → Grows (lending m body) (lending m2 body2)
+lending_grows g h =
+    grows_bind counts_grows (λ count.
+    grows_then (grows_tick g) (grows_bind h (λ flow.
+    and_grows flow (grows_tick (grows_then (closes_grows count) grows_pure)))))
+
+binds_borrow_grows : (name : ℕ) (mode : BorrowMode) (x : Option Variable)
+    → Grows (binds_borrow name mode x) (binds_borrow name mode x)
+binds_borrow_grows name mode None = grows_stuck
+binds_borrow_grows name mode (Some x) = grows_bind (lends_grows mode x.number) (holds_grows name)
+
 -- ---- cases
 
 either_grows : {m m2 k k2 : Action Flow} (b : Bool) → Grows m m2 → Grows k k2
@@ -118,12 +137,17 @@ module _ {I T C : Type 0} (see : View I T C) where
       grows_needing (path_numbers (λ of. see.fields of 0) x.of names) (λ path. grows_then
       (sets_grows x.number path value) grows_pure)
 
+  behind_grow : (x : Option Variable) (names : List Bytes) (value : Value)
+      → Grows (assigns_behind see x names value) (assigns_behind see x names value)
+  behind_grow x names value =
+      grows_bind (reaches_grows see x names) (λ one. grows_then (puts_grows one value) grows_pure)
+
   takes_grow : (number : ℕ) (binds : List (Bound Bytes)) (note : T) (value : Value)
       → Grows (takes_apart see number binds note value) (takes_apart see number binds note value)
   takes_grow number binds note value =
       grows_bind (apart_grows value) (λ parts.
       grows_then (grows_where (parts.0 == 0) (binds_grow number binds
-      (fields_noted see note 0) parts.1)) grows_pure)
+      (fields_noted see note) parts.1)) grows_pure)
 
 module _ {I T C : Type 0} (see : View I T C) (invoke invoke2 : I → List Value → Action Value)
     (deeper : (one : I) (args : List Value) → Grows (invoke one args) (invoke2 one args))
@@ -133,36 +157,46 @@ module _ {I T C : Type 0} (see : View I T C) (invoke invoke2 : I → List Value 
         → Grows (run see invoke depth number scope s) (run see invoke2 more number scope s)
     run_grows number scope (skip at) = grows_pure
     run_grows number scope (declare at binding name t e) =
-        grows_bind (eval_grows see invoke invoke2 deeper scope e) (λ value.
+        grows_bind (whole_grows see invoke invoke2 deeper scope e) (λ value.
         grows_tick (grows_then (holds_grows number value) grows_pure))
     run_grows number scope (destructure at binds e) =
-        grows_bind (eval_grows see invoke invoke2 deeper scope e) (λ value.
+        grows_bind (whole_grows see invoke invoke2 deeper scope e) (λ value.
         grows_tick (takes_grow see number binds (note_of e) value))
     run_grows number scope (assign at x path e) =
-        grows_bind (eval_grows see invoke invoke2 deeper scope e) (λ value.
+        grows_bind (whole_grows see invoke invoke2 deeper scope e) (λ value.
         grows_tick (assigns_grow see (variable_of scope x.name) (names_of path) value))
-    run_grows number scope (assign_through at r path e) = grows_stuck
+    run_grows number scope (assign_through at r path e) =
+        grows_bind (whole_grows see invoke invoke2 deeper scope e) (λ value.
+        grows_tick (behind_grow see (variable_of scope r.name) (names_of path) value))
     run_grows number scope (conditional at tests) = tests_grow number scope tests grows_pure
     run_grows number scope (conditional_else at tests block) =
         tests_grow number scope tests (within_grows (number + names_in_tests tests) (names_in_block block)
         (all_grow
         (number + names_in_tests tests) scope block))
     run_grows number scope (case_of at e all) =
-        grows_bind (eval_grows see invoke invoke2 deeper scope e) (λ value.
-        grows_tick (grows_bind (apart_grows value) (arms_grow number scope (note_of e) all)))
+        grows_bind (whole_grows see invoke invoke2 deeper scope e) (λ value.
+        grows_tick (grows_bind (tells_grows value) (arms_grow number scope (note_of e) all)))
     run_grows number scope (while_loop at e block) =
-        while_grows (suc depth) (suc more) (omega (arith, le)) (eval_grows see invoke invoke2 deeper scope e)
+        while_grows (suc depth) (suc more) (omega (arith, le)) (whole_grows see invoke invoke2 deeper scope e)
         (within_grows number (names_in_block block) (all_grow number scope block))
     run_grows number scope (for_loop at name first last block) =
-        grows_bind (eval_grows see invoke invoke2 deeper scope first) (λ a.
-        grows_bind (eval_grows see invoke invoke2 deeper scope last) (λ b.
+        grows_bind (whole_grows see invoke invoke2 deeper scope first) (λ a.
+        grows_bind (whole_grows see invoke invoke2 deeper scope last) (λ b.
         grows_tick (ranges_grow (suc depth) (suc more) (omega (arith, le)) (λ kind z.
         within_grows number (1 + names_in_block block) (grows_then (holds_grows number (values.number kind z))
         (all_grow (number + 1) (with_counter see number name.name first scope) block))) a b)))
-    run_grows number scope (borrow_in at access x r region block stop) = grows_stuck
-    run_grows number scope (borrow_typed at r t mode x block stop) = grows_stuck
+    run_grows number scope (borrow_in at access x r region block stop) =
+        let variable = variable_of scope x.name in
+        lending_grows (binds_borrow_grows number (mode_of access) variable)
+        (within_grows number (1 + names_in_block block)
+        (all_grow (number + 1) (with_reference (mode_of access) variable number r.name scope) block))
+    run_grows number scope (borrow_typed at r t mode x block stop) =
+        let variable = variable_of scope x.name in
+        lending_grows (binds_borrow_grows number mode variable)
+        (within_grows number (1 + names_in_block block)
+        (all_grow (number + 1) (with_reference mode variable number r.name scope) block))
     run_grows number scope (discard at e) =
-        grows_bind (eval_grows see invoke invoke2 deeper scope e) (λ value. grows_tick grows_pure)
+        grows_bind (whole_grows see invoke invoke2 deeper scope e) (λ value. grows_tick grows_pure)
     run_grows number scope (return_of at e) =
         grows_bind (eval_grows see invoke invoke2 deeper scope e) (λ value. grows_tick grows_pure)
 
@@ -179,7 +213,7 @@ module _ {I T C : Type 0} (see : View I T C) (invoke invoke2 : I → List Value 
         (run_tests see invoke2 more number scope tests other2)
     tests_grow number scope no_branches g = g
     tests_grow number scope (branches e block rest) g =
-        grows_bind (eval_grows see invoke invoke2 deeper scope e) (λ value.
+        grows_bind (whole_grows see invoke invoke2 deeper scope e) (λ value.
         grows_tick (grows_chosen value (within_grows number (names_in_block block)
         (all_grow number scope block))
         (tests_grow (number + names_in_block block) scope rest g)))
@@ -191,9 +225,9 @@ module _ {I T C : Type 0} (see : View I T C) (invoke invoke2 : I → List Value 
     arms_grow number scope note (arms at name binds block rest) parts =
         either_grows (means_case see note name.name parts.0)
         (within_grows number (length binds + names_in_block block) (grows_then (binds_grow number binds
-        (fields_noted see note parts.0) parts.1)
+        (fields_told see note parts.0) parts.1)
         (all_grow (number + length binds) (with_bound
-        (fields_noted see note parts.0) number binds scope) block)))
+        (fields_told see note parts.0) number binds scope) block)))
         (arms_grow (number + (length binds + names_in_block block)) scope note rest parts)
 
   pub block_grows : (number : ℕ) (scope : Scope) (block : Statements Bytes T C)

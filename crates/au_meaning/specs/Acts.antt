@@ -1,4 +1,4 @@
--- What is done to the world: names, values with births, and shipped calls.
+-- What is done to the world: names, references and borrows, values with births, and shipped calls.
 use Rattle.std.specs.Prelude.{ℕ, zero, suc, ◌+◌, ◌-◌, ◌==◌, Bool, true, false, List, [], ◌∷◌, ◌++◌, length}
 use Rattle.std.specs.Prelude.{map, replicate, take, Option, Some, None, slice_get, if◌then◌else◌}
 use Rattle.std.specs.List.{find}
@@ -6,21 +6,28 @@ use Rattle.std.specs.Str.{bytes_eq}
 use Rattle.au_type_texts.specs.Types.{ClosedType}
 use Rattle.au_effects.specs.Answers as answer
 use Rattle.au_effects.specs.Calls.{byte_read, of_one, shipped}
+use Rattle.au_effects.specs.Cases.{told_apart}
 use Rattle.au_effects.specs.Numbers.{wrapped_around, converted_value}
 use Rattle.au_effects.specs.Parts.{along}
 use Rattle.au_effects.specs.Places.{at, exchanged, name_at, name_set}
+use Rattle.au_effects.specs.References.{name_along, reference_along, reference_at, read_behind, put_behind}
+use Rattle.au_effects.specs.References.{next_reference, oldest, newer}
 use Rattle.au_effects.specs.Values as values
-use Rattle.au_effects.specs.Values.{Place, name_of, made, listed, fields_of, no_fields, field_then}
-use Rattle.au_effects.specs.Worlds.{nothing, bears, spends}
+use Rattle.au_effects.specs.Values.{Place, made, listed, fields_of, no_fields, field_then}
+use Rattle.au_effects.specs.Worlds.{nothing, bears, spends, opens, closes}
 use Rattle.au_shipped.specs.declared.prims.ShippedCall.{ShippedCall}
 use Rattle.au_shipped.specs.declared.prims.ShippedCall.TheVariants as prim
+use Rattle.au_syntax.specs.declared.expressions.BorrowMode.{BorrowMode}
+use Rattle.au_syntax.specs.declared.expressions.BorrowMode.TheVariants as mode
+use Rattle.au_syntax.specs.declared.types.Access.{Access}
+use Rattle.au_syntax.specs.declared.types.Access.TheVariants as access
 use Rattle.au_syntax.specs.Plain.{Bytes}
 use Rattle.au_syntax.specs.Types.{Bound}
 use Rattle.au_meaning.specs.Names.{field_of}
 use Rattle.au_meaning.specs.Ticks.{Action, gives, aborts, no_rule, pure, stuck, asks, does, takes, comes}
 use Rattle.au_meaning.specs.Ticks.{◌>>=◌, ◌>>◌}
 use Rattle.au_meaning.specs.Views.{Field}
-use Rattle.au_meaning.specs.Worlds.{Value, Store, World}
+use Rattle.au_meaning.specs.Worlds.{Value, Store, Borrow, World}
 
 -- ---- names of the running frame
 
@@ -38,7 +45,7 @@ with_value name value world = in_store (name_set (frame_in world) name value wor
 
 -- the place at the end of a path from a name of the running frame
 abbrev pub place_of : ℕ → List ℕ → World → Place
-place_of name path world = record { base = name_of (frame_in world) name; path = path }
+place_of name path world = name_along (frame_in world) name path
 
 -- a copy of what stands there
 abbrev pub looks : ℕ → List ℕ → Action Value
@@ -60,18 +67,85 @@ abbrev pub with_values : ℕ → List Value → World → World
 with_values name [] world = world
 with_values name (value ∷ rest) world = with_values (name + 1) rest (with_value name (Some value) world)
 
--- the end of a path from a name holds another value, where it is there
-abbrev pub stored : Option (Value × Store) → World → Option (Unit {0} × World)
+-- something with a store, in the world that has this store
+abbrev pub stored : {A : Type 0} → Option (A × Store) → World → Option (A × World)
 stored None world = None
-stored (Some pair) world = Some (tt, in_store pair.1 world)
+stored (Some pair) world = Some (pair.0, in_store pair.1 world)
 
-abbrev pub sets : ℕ → List ℕ → Value → Action (Unit {0})
+-- the end of a path from a name gets another value for what it held, where it is there
+abbrev pub sets : ℕ → List ℕ → Value → Action Value
 sets name path value = takes (λ world. stored (exchanged (place_of name path world) value world.store) world)
 
 -- so many names from one on hold nothing
 abbrev pub emptied : ℕ → ℕ → World → World
 emptied name zero world = world
 emptied name (suc count) world = emptied (name + 1) count (with_value name None world)
+
+-- ---- references
+
+-- the reference that a name holds
+abbrev pub reference_held : ℕ → World → Option (ℕ × Place)
+reference_held name world = reference_at (frame_in world) name world.store
+
+-- a reference to the end of a path from what the reference in a name refers to
+abbrev pub refers : ℕ → List ℕ → Action (ℕ × Place)
+refers name path = asks (λ world. along (reference_held name world) (λ one. Some (reference_along one path)))
+
+-- a copy of what stands behind a reference, whose borrow is used
+abbrev pub reads : ℕ × Place → Action Value
+reads one = takes (λ world. stored (read_behind one world.store) world)
+
+-- what stands behind a reference, whose borrow is used, gives way to another value
+abbrev pub puts : ℕ × Place → Value → Action Value
+puts one value = takes (λ world. stored (put_behind one value world.store) world)
+
+-- ---- borrows
+
+-- what a borrow is for
+abbrev pub access_of : BorrowMode → Access
+access_of mode.Read = access.Read
+access_of mode.Write = access.Write
+access_of mode.Reborrow = access.Write
+
+-- the place that is borrowed: a name itself, or what the reference in it refers to
+abbrev pub borrowed_place : BorrowMode → ℕ → World → Option Place
+borrowed_place mode.Read name world = Some (place_of name [] world)
+borrowed_place mode.Write name world = Some (place_of name [] world)
+borrowed_place mode.Reborrow name world = along (reference_held name world) (λ one. Some one.1)
+
+-- one more borrow is open
+abbrev pub with_borrow : Access → Place → World → World
+with_borrow access place world = record world {
+  store = opens world.store;
+  borrows = record { number = world.store.borrows; access = access; place = place } ∷ world.borrows;
+}
+
+-- a name is borrowed, and the reference given
+abbrev pub lends : BorrowMode → ℕ → Action Value
+lends mode name = do
+  place ← asks (borrowed_place mode name)
+  value ← asks (λ world. Some (next_reference place world.store))
+  does (with_borrow (access_of mode) place)
+  pure value
+
+-- how many borrows are open
+abbrev pub counts_open : Action ℕ
+counts_open = asks (λ world. Some (length world.borrows))
+
+-- open borrows are closed, the newest first, until so many are left
+abbrev pub closed_to : ℕ → World → World
+closed_to count world = record world {
+  store = closes (map (λ (one : Borrow). one.number) (newer count world.borrows)) world.store;
+  borrows = oldest count world.borrows;
+}
+
+-- what an action opens is closed behind it
+abbrev pub closing : {A : Type 0} → Action A → Action A
+closing m = do
+  count ← counts_open
+  a ← m
+  does (closed_to count)
+  pure a
 
 -- ---- frames
 
@@ -98,13 +172,18 @@ makes_value true of tag home fields = do
   does (λ world. in_store (bears of home nothing world.store) world)
   pure (made tag (Some id) (fields_of fields))
 
--- a value of a case is taken apart into the number of the case and the fields: it is consumed where it has a
--- birth
+-- a record is taken apart into the number of its case, which is 0, and its fields: it is consumed where it has
+-- a birth
 abbrev pub apart : Value → Action (ℕ × List Value)
 apart (made tag birth fields) = do
   does (λ world. in_store (spends birth world.store) world)
   pure (tag, listed fields)
 apart other = stuck
+
+-- a union, or one behind a reference, is told apart into the number of its case and its fields, or references
+-- to them
+abbrev pub tells_apart : Value → Action (ℕ × List Value)
+tells_apart value = takes (λ world. stored (told_apart value world.store) world)
 
 -- of the values of these fields that of one of them
 abbrev pub field_value : List Field → List Value → Bytes → Option Value

@@ -5,7 +5,9 @@ use Rattle.au_base.specs.declared.kinds.IntKind.{IntKind}
 use Rattle.au_type_texts.specs.Types as types
 use Rattle.au_type_texts.specs.Types.{ClosedType}
 use Rattle.au_effects.specs.Numbers.{computed, compared, negated, truth_in}
+use Rattle.au_effects.specs.References.{reference_in, referring}
 use Rattle.au_effects.specs.Values as values
+use Rattle.au_effects.specs.Values.{Place}
 use Rattle.au_ints.specs.declared.operations.IntOp.{IntOp}
 use Rattle.au_ints.specs.declared.operations.IntOp.TheVariants as int_op
 use Rattle.au_ints.specs.declared.operations.Order.{Order}
@@ -19,8 +21,9 @@ use Rattle.au_syntax.specs.Expressions.{borrow, borrow_part, binary, negation, t
 use Rattle.au_syntax.specs.Expressions.{expressions, no_arguments, arguments}
 use Rattle.au_syntax.specs.Names.{Placed}
 use Rattle.au_syntax.specs.Plain.{Bytes}
-use Rattle.au_meaning.specs.Acts.{looks, moves, makes_value, by_position, by_labels, ships_call}
-use Rattle.au_meaning.specs.Names.{Scope, Variable, variable_of, path_numbers}
+use Rattle.au_meaning.specs.Acts.{looks, moves, refers, reads, lends, closing, makes_value, by_position}
+use Rattle.au_meaning.specs.Acts.{by_labels, ships_call}
+use Rattle.au_meaning.specs.Names.{Scope, Variable, variable_of, path_numbers, target_behind}
 use Rattle.au_meaning.specs.Ticks.{Action, pure, stuck, tick, needing, where_true, by_truth, comes, ◌>>=◌}
 use Rattle.au_meaning.specs.Views.{View, Callee, Act, invokes, makes, ships}
 use Rattle.au_meaning.specs.Worlds.{Value}
@@ -107,6 +110,17 @@ abbrev pub copies : Bool → ℕ → Action Value
 copies true name = looks name []
 copies false name = moves name
 
+-- the variable that an expression is, alone or in parentheses
+abbrev pub alone : {T C : Type 0} → Scope → Expression Bytes T C → Option Variable
+alone scope (path n x []) = variable_of scope x.name
+alone scope (parenthesized n e) = alone scope e
+alone scope other = None
+
+-- the operand of `!`: a variable is copied, also where it isn't Free
+abbrev pub operand : Option Variable → Action Value → Action Value
+operand None other = other
+operand (Some x) other = tick (looks x.number [])
+
 -- one action or another, by the truth value that a value is
 abbrev pub chosen : {A : Type 0} → Action A → Action A → Value → Action A
 chosen one other value = needing (truth_in value) (by_truth one other)
@@ -123,6 +137,12 @@ module _ {I T C : Type 0} (see : View I T C) where
   abbrev pub looks_into : Option Variable → List Bytes → Action Value
   looks_into None names = stuck
   looks_into (Some x) names = needing (path_numbers (λ of. see.fields of 0) x.of names) (looks x.number)
+
+  -- a reference to a part of what the reference in a variable refers to
+  abbrev pub reaches : Option Variable → List Bytes → Action (ℕ × Place)
+  reaches None names = stuck
+  reaches (Some r) names =
+      needing (path_numbers (λ of. see.fields of 0) (target_behind r.of) names) (refers r.number)
 
   -- an operation on two values, where the first has a note and the whole another
   abbrev pub operates : Operation → T → T → Value → Value → Action Value
@@ -172,7 +192,8 @@ module _ {I T C : Type 0} (see : View I T C) (invoke : I → List Value → Acti
     eval scope (path n x []) = tick (mentions see n.note (variable_of scope x.name) x.name)
     eval scope (path n x (field ∷ fields)) =
         tick (looks_into see (variable_of scope x.name) (names_of (field ∷ fields)))
-    eval scope (arrow n r fields) = stuck
+    eval scope (arrow n r fields) =
+        tick (reaches see (variable_of scope r.name) (names_of fields) >>= reads)
     eval scope (call n f args c) = do
       values ← eval_all scope args
       tick (calls (see.callee n.note c f.name) (by_position values))
@@ -180,9 +201,12 @@ module _ {I T C : Type 0} (see : View I T C) (invoke : I → List Value → Acti
       values ← eval_named scope args
       tick (calls (see.callee n.note c f.name) (by_labels (labelled (labels args) values)))
     eval scope (parenthesized n e) = eval scope e
-    eval scope (dereference n e) = stuck
-    eval scope (borrow n mode x) = stuck
-    eval scope (borrow_part n r fields) = stuck
+    eval scope (dereference n e) = do
+      x ← operand (alone scope e) (eval scope e)
+      tick (needing (reference_in x) reads)
+    eval scope (borrow n mode x) = tick (needing (variable_of scope x.name) (λ x. lends mode x.number))
+    eval scope (borrow_part n r fields) =
+        tick (reaches see (variable_of scope r.name) (names_of fields) >>= (λ one. pure (referring one)))
     eval scope (binary n op a b) = joins (operation_of op) n.note (note_of a) (eval scope a) (eval scope b)
     eval scope (negation n e) = do
       x ← eval scope e
@@ -207,3 +231,7 @@ module _ {I T C : Type 0} (see : View I T C) (invoke : I → List Value → Acti
       value ← eval scope e
       values ← eval_named scope rest
       pure (value ∷ values)
+
+  -- a whole expression: what it opens is closed when its value is made, with no tick of its own
+  abbrev pub whole : Scope → Expression Bytes T C → Action Value
+  whole scope e = closing (eval scope e)

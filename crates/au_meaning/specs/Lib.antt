@@ -8,4 +8,5 @@ pub mod Statements
 pub mod Meanings
 pub mod Samples
 pub mod Shown
+pub mod ShownReferences
 pub mod Laws

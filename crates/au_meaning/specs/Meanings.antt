@@ -4,7 +4,7 @@ use Rattle.std.specs.Prelude.{None, if◌then◌else◌, codes}
 use Rattle.au_type_texts.specs.Types.{ClosedType}
 use Rattle.au_effects.specs.Values.{made, no_fields, field_then, root}
 use Rattle.au_effects.specs.Worlds.{bears, nothing}
-use Rattle.au_meaning.specs.Acts.{in_store, new_names, begins, ends_frame}
+use Rattle.au_meaning.specs.Acts.{in_store, new_names, begins, closing, ends_frame}
 use Rattle.au_meaning.specs.Names.{Scope, with_parameters, names_in_block}
 use Rattle.au_meaning.specs.Statements.{Flow, falls, returns, run_block}
 use Rattle.au_meaning.specs.Ticks.{Out, Action, gives, aborts, cut, no_rule, pure, stuck, over, where_true}
@@ -15,24 +15,26 @@ use Rattle.au_meaning.specs.Worlds.{Value, World, Ending, Outcome, exit, abort, 
 
 -- ---- calls
 
--- a body ends: its frame ends where it has returned a value, and else no rule applies
-abbrev pub leaves_frame : Flow → Action Value
-leaves_frame falls = stuck
-leaves_frame (returns value) = does ends_frame >> pure value
+-- the value that a body returns: where it falls through, no rule applies
+abbrev pub returned : Flow → Action Value
+returned falls = stuck
+returned (returns value) = pure value
 
 module _ {I T C : Type 0} where
   -- the parameters of a function are in scope
   abbrev pub scope_of : Function I T C → Scope
   scope_of f = with_parameters f.first f.parameters []
 
-  -- a function is called: its arguments are the first names of a new frame, and its body is run
+  -- A function is called: its arguments are the first names of a new frame, and its body is run. What this
+  -- opens is closed before the names go.
   abbrev pub enters : (I → List Value → Action Value) → ℕ → Option (Function I T C) → List Value
       → Action Value
   enters invoke depth None args = stuck
   enters invoke depth (Some f) args = where_true (length args == length f.parameters) (do
     does (begins (new_names f.first args (names_in_block f.body)))
-    flow ← run_block f.view invoke depth (f.first + length args) (scope_of f) f.body
-    leaves_frame flow)
+    value ← closing (run_block f.view invoke depth (f.first + length args) (scope_of f) f.body >>= returned)
+    does ends_frame
+    pure value)
 
   -- a call, where calls in calls go at most so deep
   unfoldable pub call_at : (I → Option (Function I T C)) → ℕ → I → List Value → Action Value

@@ -1,9 +1,15 @@
 -- The names of a function: what is in scope at a place, and the number of each declaration.
-use Rattle.std.specs.Prelude.{ℕ, ◌+◌, List, [], ◌∷◌, length, Option, Some, None, if◌then◌else◌, option_map}
+use Rattle.std.specs.Prelude.{ℕ, ◌+◌, List, [], ◌∷◌, length, map, Option, Some, None, if◌then◌else◌}
+use Rattle.std.specs.Prelude.{option_map}
 use Rattle.std.specs.List.{find}
 use Rattle.std.specs.Str.{bytes_eq}
+use Rattle.au_type_texts.specs.Types as types
 use Rattle.au_type_texts.specs.Types.{ClosedType}
 use Rattle.au_effects.specs.Parts.{along}
+use Rattle.au_syntax.specs.declared.expressions.BorrowMode.{BorrowMode}
+use Rattle.au_syntax.specs.declared.expressions.BorrowMode.TheVariants as mode
+use Rattle.au_syntax.specs.declared.types.Access.{Access}
+use Rattle.au_syntax.specs.declared.types.Access.TheVariants as access
 use Rattle.au_syntax.specs.Names.{Placed, Renaming}
 use Rattle.au_syntax.specs.Plain.{Bytes}
 use Rattle.au_syntax.specs.Statements.{Statement, Statements, Branches, Arms, skip, declare, destructure}
@@ -110,3 +116,48 @@ with_bound fields number [] scope = scope
 with_bound fields number (b ∷ rest) scope =
     with_bound fields (number + 1) rest (with_name (bound_name b.name) number
     (option_map (λ (one : ℕ × ClosedType). one.1) (along fields (field_of b.name.name.name))) scope)
+
+-- ---- references
+
+-- the type of what a reference refers to
+abbrev pub target_behind : Option ClosedType → Option ClosedType
+target_behind (Some (types.reads t)) = Some t
+target_behind (Some (types.writes t)) = Some t
+target_behind other = None
+
+-- the type whose cases a `case` over a type tells apart: the type itself, or the one behind a reference
+abbrev pub told_type : ClosedType → ClosedType
+told_type (types.reads t) = t
+told_type (types.writes t) = t
+told_type other = other
+
+-- The fields of a case, as they are reached through a type: behind a reference they are references of the same
+-- access.
+abbrev pub fields_through : ClosedType → Option (List Field) → Option (List Field)
+fields_through (types.reads t) fields =
+    option_map (map (λ (field : Field). record field { of = types.reads field.of })) fields
+fields_through (types.writes t) fields =
+    option_map (map (λ (field : Field). record field { of = types.writes field.of })) fields
+fields_through other fields = fields
+
+-- how `borrow` and `borrow!` borrow
+abbrev pub mode_of : Access → BorrowMode
+mode_of access.Read = mode.Read
+mode_of access.Write = mode.Write
+
+-- the type of the reference that a borrow of a variable of a type gives: one that is borrowed again is of the
+-- type of the reference that the variable holds
+abbrev pub borrowed : BorrowMode → Option ClosedType → Option ClosedType
+borrowed mode.Read t = option_map (λ (of : ClosedType). types.reads of) t
+borrowed mode.Write t = option_map (λ (of : ClosedType). types.writes of) t
+borrowed mode.Reborrow t = t
+
+-- the type of a variable
+abbrev pub type_in : Option Variable → Option ClosedType
+type_in None = None
+type_in (Some x) = x.of
+
+-- a scope with the reference that a borrow of a variable gives
+abbrev pub with_reference : BorrowMode → Option Variable → ℕ → Bytes → Scope → Scope
+with_reference mode variable number name scope =
+    with_name name number (borrowed mode (type_in variable)) scope

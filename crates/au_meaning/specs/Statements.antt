@@ -6,6 +6,7 @@ use Rattle.au_base.specs.declared.kinds.IntKind.{IntKind}
 use Rattle.au_effects.specs.Numbers.{number_in, same_kind}
 use Rattle.au_effects.specs.Parts.{along}
 use Rattle.au_effects.specs.Values as values
+use Rattle.au_syntax.specs.declared.expressions.BorrowMode.{BorrowMode}
 use Rattle.au_syntax.specs.Expressions.{Expression}
 use Rattle.au_syntax.specs.Plain.{Bytes}
 use Rattle.au_syntax.specs.Statements.{Statement, Statements, Branches, Arms, skip, declare, destructure}
@@ -13,10 +14,12 @@ use Rattle.au_syntax.specs.Statements.{assign, assign_through, conditional, cond
 use Rattle.au_syntax.specs.Statements.{while_loop, for_loop, borrow_in, borrow_typed, discard, return_of}
 use Rattle.au_syntax.specs.Statements.{no_statements, statements, no_branches, branches, no_arms, arms}
 use Rattle.au_syntax.specs.Types.{Bound}
-use Rattle.au_meaning.specs.Acts.{holds, with_values, sets, emptied, apart, bound_counted}
-use Rattle.au_meaning.specs.Expressions.{names_of, note_of, chosen, eval}
+use Rattle.au_meaning.specs.Acts.{holds, with_values, sets, emptied, puts, lends, counts_open, closed_to}
+use Rattle.au_meaning.specs.Acts.{apart, tells_apart, bound_counted}
+use Rattle.au_meaning.specs.Expressions.{names_of, note_of, chosen, reaches, eval, whole}
 use Rattle.au_meaning.specs.Names.{Scope, Variable, variable_of, with_name, with_bound, path_numbers}
-use Rattle.au_meaning.specs.Names.{names_in, names_in_block, names_in_tests}
+use Rattle.au_meaning.specs.Names.{told_type, fields_through}
+use Rattle.au_meaning.specs.Names.{names_in, names_in_block, names_in_tests, mode_of, with_reference}
 use Rattle.au_meaning.specs.Ticks.{Action, pure, stuck, over, tick, needing, where_true, does, ◌>>=◌, ◌>>◌}
 use Rattle.au_meaning.specs.Views.{Field, View}
 use Rattle.au_meaning.specs.Worlds.{Value}
@@ -33,14 +36,13 @@ abbrev pub and_then : Action Flow → Flow → Action Flow
 and_then next falls = next
 and_then next (returns value) = pure (returns value)
 
--- at the end of a block its names, so many from one on, are emptied
-abbrev pub leaves : ℕ → ℕ → Flow → Action Flow
-leaves name count flow = do
-  does (emptied name count)
-  pure flow
+-- At the end of a block its names, so many from one on, are emptied. Where it returns a value, they go with
+-- those of the frame.
+abbrev pub empties : ℕ → ℕ → Action Flow
+empties name count = does (emptied name count) >> pure falls
 
 abbrev pub within : ℕ → ℕ → Action Flow → Action Flow
-within name count block = block >>= leaves name count
+within name count block = block >>= and_then (empties name count)
 
 -- ---- loops
 
@@ -70,6 +72,21 @@ ranges turns body a b =
     both_numbers (number_in a) (number_in b) (λ kind first last.
     if int_lt last first then pure falls else for_turns turns (body kind) first last)
 
+-- ---- borrows
+
+-- A borrow statement: its borrow is opened with one tick, and closed with another behind the block. Where
+-- this returns a value, it is closed with those of the frame.
+abbrev pub lending : Action (Unit {0}) → Action Flow → Action Flow
+lending opening block = do
+  count ← counts_open
+  tick opening
+  block >>= and_then (tick (does (closed_to count) >> pure falls))
+
+-- a name holds the reference of a borrow of a variable
+abbrev pub binds_borrow : ℕ → BorrowMode → Option Variable → Action (Unit {0})
+binds_borrow name mode None = stuck
+binds_borrow name mode (Some x) = lends mode x.number >>= holds name
+
 -- ---- cases
 
 -- a number is this one, if there is one
@@ -90,19 +107,28 @@ binds_fields name binds fields held =
 -- ---- statements
 
 module _ {I T C : Type 0} (see : View I T C) where
-  -- the fields of the case of a number of what an expression is, by its note
-  abbrev pub fields_noted : T → ℕ → Option (List Field)
-  fields_noted note tag = along (see.type_of note) (λ of. see.fields of tag)
+  -- the fields of the record that an expression is, by its note
+  abbrev pub fields_noted : T → Option (List Field)
+  fields_noted note = along (see.type_of note) (λ of. see.fields of 0)
+
+  -- of a union, or one behind a reference, by the note of the expression that is told apart: the number of the
+  -- case that a name means, and the fields of the case of a number, as they are bound
+  abbrev pub tag_told : T → Bytes → Option ℕ
+  tag_told note name = along (see.type_of note) (λ of. see.tag (told_type of) name)
+
+  abbrev pub fields_told : T → ℕ → Option (List Field)
+  fields_told note tag =
+      along (see.type_of note) (λ of. fields_through of (see.fields (told_type of) tag))
 
   -- whether a name means the case of a number
   abbrev pub means_case : T → Bytes → ℕ → Bool
-  means_case note name tag = is_tag tag (along (see.type_of note) (λ of. see.tag of name))
+  means_case note name tag = is_tag tag (tag_told note name)
 
   -- what is in scope after a statement
   abbrev pub after : ℕ → Statement Bytes T C → Scope → Scope
   after number (declare at binding name t e) scope =
       with_name name.name number (see.type_of (note_of e)) scope
-  after number (destructure at binds e) scope = with_bound (fields_noted (note_of e) 0) number binds scope
+  after number (destructure at binds e) scope = with_bound (fields_noted (note_of e)) number binds scope
   after number other scope = scope
 
   -- a scope with the counter of a loop, which is of the type of the first bound
@@ -116,11 +142,18 @@ module _ {I T C : Type 0} (see : View I T C) where
       needing (path_numbers (λ of. see.fields of 0) x.of names) (λ path.
       sets x.number path value >> pure falls)
 
+  -- the end of a path behind the reference in a variable becomes a value
+  abbrev pub assigns_behind : Option Variable → List Bytes → Value → Action Flow
+  assigns_behind variable names value = do
+    one ← reaches see variable names
+    puts one value
+    pure falls
+
   -- a record is taken apart, and names from one on hold its fields
   abbrev pub takes_apart : ℕ → List (Bound Bytes) → T → Value → Action Flow
   takes_apart number binds note value = do
     parts ← apart value
-    where_true (parts.0 == 0) (binds_fields number binds (fields_noted note 0) parts.1)
+    where_true (parts.0 == 0) (binds_fields number binds (fields_noted note) parts.1)
     pure falls
 
   -- the names that are declared in a block, from one on, are emptied at its end
@@ -132,35 +165,45 @@ module _ {I T C : Type 0} (see : View I T C) (invoke : I → List Value → Acti
     pub run : ℕ → Scope → Statement Bytes T C → Action Flow
     run number scope (skip at) = pure falls
     run number scope (declare at binding name t e) = do
-      value ← eval see invoke scope e
+      value ← whole see invoke scope e
       tick (holds number value >> pure falls)
     run number scope (destructure at binds e) = do
-      value ← eval see invoke scope e
+      value ← whole see invoke scope e
       tick (takes_apart see number binds (note_of e) value)
     run number scope (assign at x path e) = do
-      value ← eval see invoke scope e
+      value ← whole see invoke scope e
       tick (assigns see (variable_of scope x.name) (names_of path) value)
-    run number scope (assign_through at r path e) = stuck
+    run number scope (assign_through at r path e) = do
+      value ← whole see invoke scope e
+      tick (assigns_behind see (variable_of scope r.name) (names_of path) value)
     run number scope (conditional at tests) = run_tests number scope tests (pure falls)
     run number scope (conditional_else at tests block) =
         run_tests number scope tests
         (let other = number + names_in_tests tests in emptying see other block (run_all other scope block))
     run number scope (case_of at e all) = do
-      value ← eval see invoke scope e
-      tick (apart value >>= run_arms number scope (note_of e) all)
+      value ← whole see invoke scope e
+      tick (tells_apart value >>= run_arms number scope (note_of e) all)
     run number scope (while_loop at e block) =
-        while_turns (suc depth) (eval see invoke scope e)
+        while_turns (suc depth) (whole see invoke scope e)
         (emptying see number block (run_all number scope block))
     run number scope (for_loop at name first last block) = do
-      a ← eval see invoke scope first
-      b ← eval see invoke scope last
+      a ← whole see invoke scope first
+      b ← whole see invoke scope last
       tick (ranges (suc depth) (λ kind z. within number (1 + names_in_block block) (
           holds number (values.number kind z)
           >> run_all (number + 1) (with_counter see number name.name first scope) block)) a b)
-    run number scope (borrow_in at access x r region block stop) = stuck
-    run number scope (borrow_typed at r t mode x block stop) = stuck
+    run number scope (borrow_in at access x r region block stop) =
+        let variable = variable_of scope x.name in
+        lending (binds_borrow number (mode_of access) variable)
+        (within number (1 + names_in_block block)
+        (run_all (number + 1) (with_reference (mode_of access) variable number r.name scope) block))
+    run number scope (borrow_typed at r t mode x block stop) =
+        let variable = variable_of scope x.name in
+        lending (binds_borrow number mode variable)
+        (within number (1 + names_in_block block)
+        (run_all (number + 1) (with_reference mode variable number r.name scope) block))
     run number scope (discard at e) = do
-      value ← eval see invoke scope e
+      value ← whole see invoke scope e
       tick (pure falls)
     run number scope (return_of at e) = do
       value ← eval see invoke scope e
@@ -176,7 +219,7 @@ module _ {I T C : Type 0} (see : View I T C) (invoke : I → List Value → Acti
     pub run_tests : ℕ → Scope → Branches Bytes T C → Action Flow → Action Flow
     run_tests number scope no_branches other = other
     run_tests number scope (branches e block rest) other = do
-      value ← eval see invoke scope e
+      value ← whole see invoke scope e
       tick (chosen (emptying see number block (run_all number scope block))
           (run_tests (number + names_in_block block) scope rest other) value)
 
@@ -186,9 +229,9 @@ module _ {I T C : Type 0} (see : View I T C) (invoke : I → List Value → Acti
     run_arms number scope note (arms at name binds block rest) parts =
         let own = length binds + names_in_block block in
         either (means_case see note name.name parts.0) (within number own (
-        binds_fields number binds (fields_noted see note parts.0) parts.1
+        binds_fields number binds (fields_told see note parts.0) parts.1
         >> run_all (number + length binds)
-        (with_bound (fields_noted see note parts.0) number binds scope) block))
+        (with_bound (fields_told see note parts.0) number binds scope) block))
         (run_arms (number + own) scope note rest parts)
 
   -- a body, whose names begin with a number

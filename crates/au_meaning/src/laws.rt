@@ -2,10 +2,16 @@
 
 ghost use Rattle.au_meaning.specs.Laws.{EndingsStay, MoreTicksTellMore, TicksAreSpent};
 ghost use Rattle.au_meaning.specs.Shown.{ProgramsAreShown};
+ghost use Rattle.au_meaning.specs.ShownReferences.{ReferencesAreShown};
 
 /// Of small programs that is told which was written by hand.
 pub fn programs_are_shown()
     ensures { ProgramsAreShown }
+{}
+
+/// The same of small programs with references.
+pub fn references_are_shown()
+    ensures { ReferencesAreShown }
 {}
 
 /// A program that has more ticks goes on from what it did with fewer, and does the same where it had ended.

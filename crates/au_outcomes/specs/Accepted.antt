@@ -58,7 +58,7 @@ is_unbuilt (Entry entry) = false
 is_unbuilt Stuck = false
 
 -- whether files come to this behind the steps that judge whether they are accepted: that is told, or the
--- lives of its variables are, or the program is to run, or a form in it is refused as what isn't built yet
+-- lives of its variables are, or the program is to run, or a name in it is refused as what isn't built yet
 abbrev pub is_behind : Outcome → Bool
 is_behind outcome.NoJob = false
 is_behind (outcome.Missing name) = false

@@ -1,7 +1,7 @@
 -- What the files of a program come to once they are read: they are gathered into modules behind the shipped
 -- ones, the names and promises of the modules are judged, then their declarations, then their instances, then
 -- the types in bodies, and then the lives of variables. Where all of this is good the program is accepted;
--- and where it is to run, no form may be left in it that isn't built yet.
+-- and where it is to run, it may name nothing that isn't built yet.
 use Rattle.std.specs.Prelude.{◌≡◌, ◌⊎◌, ◌+◌, ℕ, List, [], ◌∷◌, ◌++◌, map, Option, None, Some}
 use Rattle.std.specs.Option.{option_or}
 use Rattle.au_explain.specs.declared.lists.Lives.{Lives}

@@ -90,7 +90,7 @@ fn with_shipped(alloc: Global, own: Vec<FileTree>) -> Result<Vec<FileTree>, Memo
 
 /// What accepted files come to whose program is this: where no more is asked they are accepted, where they
 /// are explained they come to the lives of their variables, and where their program is to run that is what
-/// they come to, or a form in it isn't built yet.
+/// they come to, or it names what isn't built yet.
 pub fn accepted_outcome(alloc: Global, aim: Aim, noted: NotedProgram) -> Result<Outcome, Halt>
     ensures comes { (reads : List ReadFile) → slots.modules noted ≡ program_modules reads
         → Says result (AcceptedCome aim reads) (AcceptedCome aim reads) }
@@ -114,8 +114,8 @@ fn explained(alloc: Global, noted: &NotedProgram) -> Result<Outcome, Halt>
     Ok(Outcome::Explained(lives))
 }
 
-/// An accepted program that is asked to run: the first form in it that isn't built yet is refused, and where
-/// there is none the program is to run.
+/// An accepted program that is asked to run: the first name in it of what isn't built yet is refused, and
+/// where there is none the program is to run.
 fn to_run(noted: NotedProgram) -> Outcome
     ensures { (reads : List ReadFile) → slots.modules noted ≡ program_modules reads → RunComes reads result }
 {

@@ -11,7 +11,7 @@ ghost use Rattle.au_outcomes.specs.declared.outcomes.Outcome.{Outcome};
 
 /// Whatever is asked of files, they come to something behind the steps that judge whether they are accepted
 /// exactly where they are; and then they come to what is asked: that they are accepted, or the lives of their
-/// variables, or that their program is to run unless a form in it isn't built yet.
+/// variables, or that their program is to run unless it names what isn't built yet.
 pub fn accepted_files_come_to_what_is_asked()
     ensures behind { (aim : Aim) (files : Files) (names : List (List ℕ)) (arisen : Outcome)
         → Comes aim files names arisen

@@ -30,6 +30,6 @@ pub enum Outcome {
     Accepted,
     /// The program is accepted, and these are the lives of its variables.
     Explained(Lives),
-    /// The program is accepted, no form in it is left that isn't built yet, and it is to run.
+    /// The program is accepted, it names nothing that isn't built yet, and it is to run.
     Runs(NotedProgram),
 }

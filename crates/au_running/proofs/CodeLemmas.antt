@@ -14,12 +14,14 @@ use Rattle.au_lowered.specs.Expressions.{code, code_of_all, code_of_named, opens
 use Rattle.au_lowered.specs.Expressions.{part_behind}
 use Rattle.au_lowered.specs.Programs.{body_of, bodies, texts_named, types_named, entry_types, takes_root}
 use Rattle.au_lowered.specs.Programs.{texts_in, types_in, numbered, function_code, lowered}
-use Rattle.au_lowered.specs.Slots.{mode_of, with_reference, with_fields, fields_of_case, tag_in, kept, after}
+use Rattle.au_lowered.specs.Slots.{with_fields, fields_of_case, kept, after}
+use Rattle.au_meaning.specs.Names.{mode_of, with_reference}
 use Rattle.au_lowered.specs.Slots.{room, room_of_block, room_of_tests, room_of_arms}
 use Rattle.au_lowered.specs.Statements.{arm_then, cases, is_last, lends, turns, statement, block, tests_of, arms_of}
 use Rattle.au_meaning.specs.Expressions.{Operation, computes, compares, is_and, is_or, operation_of, note_of}
 use Rattle.au_meaning.specs.Expressions.{names_of, labels}
 use Rattle.au_meaning.specs.Names.{Scope, Variable, variable_of, with_name, with_parameters}
+use Rattle.au_meaning.specs.Statements.{tag_told}
 use Rattle.au_meaning.specs.Views.{Function, View}
 use Rattle.au_graphs.specs.Reached.{adds}
 use Rattle.au_syntax.specs.Expressions.{Expression, Expressions, Arguments, number, negative, text, truth}
@@ -188,7 +190,7 @@ module _ {T C : Type 0} (see : View ℕ T C) where
     arms_same around slot scope note no_arms ok place = refl
     arms_same around slot scope note (arms at name binds body rest) ok place =
         let fields = fields_of_case see note name.name in
-        λ i. arm_then (block_returns body || is_last rest) (tag_in see note name.name)
+        λ i. arm_then (block_returns body || is_last rest) (tag_told see note name.name)
         (block_same around (slot + length fields) (with_fields fields slot binds scope) body ok.0 i)
         (λ p. arms_same around slot scope note rest ok.1 p i) place
 

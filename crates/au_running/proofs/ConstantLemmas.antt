@@ -8,6 +8,7 @@ use Rattle.au_syntax.specs.Expressions.{Expression, Expressions, Arguments, numb
 use Rattle.au_syntax.specs.Expressions.{nil, path, arrow, call, named_call, parenthesized, dereference}
 use Rattle.au_syntax.specs.Expressions.{borrow, borrow_part, binary, negation, typed, choice, no_expressions}
 use Rattle.au_syntax.specs.Expressions.{expressions, no_arguments, arguments}
+use Rattle.au_syntax.specs.declared.modules.Part.TheVariants.{Body}
 use Rattle.au_syntax.specs.Modules.{constant, opaque_type, record_type, union_type, function, class, instance}
 use Rattle.au_syntax.specs.Modules.{constant_body, function_body, instance_body}
 use Rattle.au_syntax.specs.Plain.{Bytes}
@@ -178,7 +179,8 @@ module _ (program : List ModuleParts) (noted : List NotedParts) (derived : IsDer
       by_place None there is = absurd cc
       by_place (Some d) there is =
           let good = module_good (outside_of program) 0 noted derived.good at in
-          declared_ranges good.0 d (good_there good.0 (body_at noted at) good.1 index d there) literal is
+          declared_ranges (outside_of program (0 + at) Body) d
+          (good_there (outside_of program (0 + at) Body) (body_at noted at) good index d there) literal is
 
   standing_ranges : (o : Option Standing) → Ranges (value_standing program noted o)
   standing_ranges None literal e = absurd cc

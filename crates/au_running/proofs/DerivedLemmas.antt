@@ -1,11 +1,11 @@
 -- What the rules of typing say of the form of a body.
 use Rattle.std.proofs.Common.{◌≡◌, ℕ, zero, suc, ◌+◌, Bool, true, false, List, [], ◌∷◌, Option, Some, None}
-use Rattle.std.proofs.Common.{refl, subst, arith, slice_get, cond}
+use Rattle.std.proofs.Common.{Ok, Err, refl, sym, ap, ◌∙◌, subst, arith, slice_get, cond}
 use Rattle.std.specs.List.{find}
 use Rattle.std.specs.Option.{option_map, option_and_then}
 use Rattle.au_syntax.specs.declared.modules.Part.{Part}
 use Rattle.au_syntax.specs.declared.modules.Part.TheVariants.{Body}
-use Rattle.au_syntax.specs.Modules.{Constrained, constant, opaque_type, record_type, union_type, function}
+use Rattle.au_syntax.specs.Modules.{Constrained, Header, constant, opaque_type, record_type, union_type, function}
 use Rattle.au_syntax.specs.Modules.{class, instance, constant_body, function_body, instance_body}
 use Rattle.au_syntax.specs.Plain.{Bytes}
 use Rattle.au_syntax.specs.Statements.{skip, declare, destructure, assign, assign_through, conditional}
@@ -17,7 +17,13 @@ use Rattle.au_names.specs.declared.targets.Target.{Target}
 use Rattle.au_names.specs.Standing.{Standing, standing_at}
 use Rattle.au_typing.specs.Scopes.{Case, Outside, Scope}
 use Rattle.au_typing.specs.Notes.{type_of}
-use Rattle.au_typing.specs.Bodies.{GoodBody, GoodMethods}
+use Rattle.au_typing.specs.Bodies.{GoodBody, GoodMethods, body_scope, generics_in, outer_scope, with_parameters}
+use Rattle.au_typing.specs.Bodies.{with_result}
+use Rattle.au_typing.specs.Faults.{Noting, ◌>>=◌}
+use Rattle.au_typing.specs.Lookups.{written_type}
+use Rattle.au_typing.specs.Outsides.{outside_of}
+use Rattle.au_types.specs.Types.{Meaning}
+use Rattle.au_syntax.specs.Types.{Labelled}
 use Rattle.au_typing.specs.Derivations.{Derives, GoodDeclaration, GoodDeclarations, GoodModules, GoodPart}
 use Rattle.au_typing.specs.InScope.{after, fixed_variable, with_bound, with_variable}
 use Rattle.au_typing.specs.Parts.{heads_of}
@@ -78,8 +84,8 @@ mutual
   good_binds (while_loop at e b) sc g = block_binds b sc g.1
   good_binds (for_loop at n a z b) sc g = block_binds b (with_variable (fixed_variable n.name
       (type_of a)) sc) g.1
-  good_binds (borrow_in at access x r region b stop) sc g = tt
-  good_binds (borrow_typed at r t mode x b stop) sc g = tt
+  good_binds (borrow_in at access x r region b stop) sc g = block_binds b _ g.2
+  good_binds (borrow_typed at r t mode x b stop) sc g = block_binds b _ g.3
   good_binds (discard at e) sc g = tt
   good_binds (return_of at e) sc g = tt
 
@@ -102,57 +108,61 @@ mutual
 
 -- ---- bodies
 
-body_formed : (outside : Outside) (generics : List (Constrained Bytes)) (header : _) (block : NotedStatements)
-    → GoodBody outside generics header block → IsFormed block
-body_formed outside generics header block g = record {
+-- a body is good, by what the body of its module sees
+abbrev pub IsTyped : (ℕ → Part → Outside) → BodyOf → Type 0
+IsTyped outside body = GoodBody (outside body.place Body) body.generics body.header body.block
+
+body_formed : (outside : ℕ → Part → Outside) (body : BodyOf) → IsTyped outside body → IsFormed body.block
+body_formed outside body g = record {
   returns = g.returned;
-  tidy = block_tidy block g.scope g.good;
-  whole = block_binds block g.scope g.good;
+  tidy = block_tidy body.block g.scope g.good;
+  whole = block_binds body.block g.scope g.good;
 }
 
 -- a method that is found is good
 method_found : (outside : Outside) (generics : List (Constrained Bytes)) (name : Bytes)
     (methods : List NotedMethod)
     → GoodMethods outside generics methods → (m : NotedMethod) → find (is_method name) methods ≡ Some m
-    → IsFormed m.body
+    → GoodBody outside generics m.header m.body
 method_found outside generics name [] g m e = absurd cc
 method_found outside generics name (one ∷ rest) g m e =
     by_test (is_method name one) e (method_found outside generics name rest g.1 m)
   where
     by_test : (b : Bool) → cond b (Some one) (find (is_method name) rest) ≡ Some m
-        → (find (is_method name) rest ≡ Some m → IsFormed m.body) → IsFormed m.body
+        → (find (is_method name) rest ≡ Some m → GoodBody outside generics m.header m.body)
+        → GoodBody outside generics m.header m.body
     by_test true is more =
         let same : one ≡ m = cc in
-        subst (λ (x : NotedMethod). IsFormed x.body) same
-        (body_formed outside generics one.header one.body g.0)
+        subst (λ (x : NotedMethod). GoodBody outside generics x.header x.body) same g.0
     by_test false is more = more is
 
 -- so is the method of an instance
-method_formed : (outside : Outside) (place : ℕ) (generics : List (Constrained Bytes)) (name : Bytes)
-    (methods : List NotedMethod) → GoodMethods outside generics methods → (o : Option NotedMethod)
+method_typed : (outside : ℕ → Part → Outside) (place : ℕ) (generics : List (Constrained Bytes)) (name : Bytes)
+    (methods : List NotedMethod) → GoodMethods (outside place Body) generics methods → (o : Option NotedMethod)
     → find (is_method name) methods ≡ o → (body : BodyOf)
-    → option_map (method_body place generics) o ≡ Some body → IsFormed body.block
-method_formed outside place generics name methods g None found body e = absurd cc
-method_formed outside place generics name methods g (Some m) found body e =
+    → option_map (method_body place generics) o ≡ Some body → IsTyped outside body
+method_typed outside place generics name methods g None found body e = absurd cc
+method_typed outside place generics name methods g (Some m) found body e =
     let same : method_body place generics m ≡ body = cc in
-    subst (λ (x : BodyOf). IsFormed x.block) same (method_found outside generics name methods g m found)
+    subst (IsTyped outside) same (method_found (outside place Body) generics name methods g m found)
 
--- the body that a good declaration has under a name is formed
-declared_formed : (outside : Outside) (place : ℕ) (name : Bytes) (d : NotedDeclaration)
-    → GoodDeclaration outside d → (body : BodyOf) → body_in place name d ≡ Some body → IsFormed body.block
-declared_formed outside place name (function_body at generics h block stop) g body e =
+-- the body that a good declaration has under a name is good
+declared_typed : (outside : ℕ → Part → Outside) (place : ℕ) (name : Bytes) (d : NotedDeclaration)
+    → GoodDeclaration (outside place Body) d → (body : BodyOf) → body_in place name d ≡ Some body
+    → IsTyped outside body
+declared_typed outside place name (function_body at generics h block stop) g body e =
     let same : record { place = place; generics = generics; header = h; block = block } ≡ body = cc in
-    subst (λ (x : BodyOf). IsFormed x.block) same (body_formed outside generics h block g)
-declared_formed outside place name (instance_body at generics named t methods) g body e =
-    method_formed outside place generics name methods g (find (is_method name) methods) refl body e
-declared_formed outside place name (constant_body at n t value) g body e = absurd cc
-declared_formed outside place name (constant at n t) g body e = absurd cc
-declared_formed outside place name (opaque_type at n ps u) g body e = absurd cc
-declared_formed outside place name (record_type at n ps u fields) g body e = absurd cc
-declared_formed outside place name (union_type at n ps u cases) g body e = absurd cc
-declared_formed outside place name (function at gs h) g body e = absurd cc
-declared_formed outside place name (class at n p hs) g body e = absurd cc
-declared_formed outside place name (instance at gs n t) g body e = absurd cc
+    subst (IsTyped outside) same g
+declared_typed outside place name (instance_body at generics named t methods) g body e =
+    method_typed outside place generics name methods g (find (is_method name) methods) refl body e
+declared_typed outside place name (constant_body at n t value) g body e = absurd cc
+declared_typed outside place name (constant at n t) g body e = absurd cc
+declared_typed outside place name (opaque_type at n ps u) g body e = absurd cc
+declared_typed outside place name (record_type at n ps u fields) g body e = absurd cc
+declared_typed outside place name (union_type at n ps u cases) g body e = absurd cc
+declared_typed outside place name (function at gs h) g body e = absurd cc
+declared_typed outside place name (class at n p hs) g body e = absurd cc
+declared_typed outside place name (instance at gs n t) g body e = absurd cc
 
 -- ---- where declarations stand
 
@@ -171,39 +181,95 @@ part_good : (outside : Outside) (part : Option NotedEntry) → GoodPart outside 
 part_good outside None g = tt
 part_good outside (Some entry) g = g
 
--- the declarations of the body of the module at a place are good, by what some part sees
+-- the declarations of the body of the module at a place are good, by what that sees
 pub module_good : (outside : ℕ → Part → Outside) (place : ℕ) (noted : List NotedParts)
     → GoodModules outside place noted
-    → (at : ℕ) → (seen : Outside) × GoodDeclarations seen (body_of_parts (slice_get noted at))
-module_good outside place [] g at = (outside place Body, tt)
-module_good outside place (m ∷ rest) g zero = (outside place Body, part_good (outside place Body) m.body g.1)
-module_good outside place (m ∷ rest) g (suc at) = module_good outside (place + 1) rest g.2 at
+    → (at : ℕ) → GoodDeclarations (outside (place + at) Body) (body_of_parts (slice_get noted at))
+module_good outside place [] g at = tt
+module_good outside place (m ∷ rest) g zero =
+    let same : place ≡ place + 0 = omega arith in
+    subst (λ n. GoodDeclarations (outside n Body) (declared_in m.body)) same
+    (part_good (outside place Body) m.body g.1)
+module_good outside place (m ∷ rest) g (suc at) =
+    let same : place + 1 + at ≡ place + suc at = omega arith in
+    subst (λ n. GoodDeclarations (outside n Body) (body_of_parts (slice_get rest at))) same
+    (module_good outside (place + 1) rest g.2 at)
 
 module _ (outside : ℕ → Part → Outside) (program : List ModuleParts) (noted : List NotedParts)
     (derived : Derives outside program noted) where
-  -- what is found of an index in the body of the module at a place is formed
-  indexed_formed : (place at : ℕ) (name : Bytes) (index : Option ℕ) (body : BodyOf)
-      → option_and_then (body_in place name) (noted_at noted at index) ≡ Some body → IsFormed body.block
-  indexed_formed place at name None body e = absurd cc
-  indexed_formed place at name (Some index) body e =
-      by_place (slice_get (body_at noted at) index) refl e
+  -- what is found of an index in the body of the module at a place is good
+  indexed_typed : (place : ℕ) (name : Bytes) (index : Option ℕ) (body : BodyOf)
+      → option_and_then (body_in place name) (noted_at noted place index) ≡ Some body → IsTyped outside body
+  indexed_typed place name None body e = absurd cc
+  indexed_typed place name (Some index) body e =
+      by_place (slice_get (body_at noted place) index) refl e
     where
-      by_place : (o : Option NotedDeclaration) → slice_get (body_at noted at) index ≡ o
-          → option_and_then (body_in place name) o ≡ Some body → IsFormed body.block
+      by_place : (o : Option NotedDeclaration) → slice_get (body_at noted place) index ≡ o
+          → option_and_then (body_in place name) o ≡ Some body → IsTyped outside body
       by_place None there is = absurd cc
       by_place (Some d) there is =
-          let good = module_good outside 0 noted derived.good at in
-          declared_formed good.0 place name d
-          (good_there good.0 (body_at noted at) good.1 index d there) body is
+          let same : 0 + place ≡ place = omega arith in
+          let good = subst (λ n. GoodDeclarations (outside n Body) (body_at noted place)) same
+          (module_good outside 0 noted derived.good place) in
+          declared_typed outside place name d
+          (good_there (outside place Body) (body_at noted place) good index d there) body is
 
-  -- the body of a declaration that is found is formed
-  standing_formed : (name : Bytes) (o : Option Standing) (body : BodyOf)
-      → body_standing program noted name o ≡ Some body → IsFormed body.block
-  standing_formed name None body e = absurd cc
-  standing_formed name (Some d) body e =
-      indexed_formed d.place d.place name (defining_index program d d.part) body e
+  -- the body of a declaration that is found is good
+  standing_typed : (name : Bytes) (o : Option Standing) (body : BodyOf)
+      → body_standing program noted name o ≡ Some body → IsTyped outside body
+  standing_typed name None body e = absurd cc
+  standing_typed name (Some d) body e =
+      indexed_typed d.place name (defining_index program d d.part) body e
 
   -- so is each body of the program
+  pub bodies_typed : (target : Target) (body : BodyOf) → body_of program noted target ≡ Some body
+      → IsTyped outside body
+  bodies_typed target body e = standing_typed target.name (standing_at program target.at) body e
+
+  -- and it is formed
   pub bodies_formed : (target : Target) (body : BodyOf) → body_of program noted target ≡ Some body
       → IsFormed body.block
-  bodies_formed target body e = standing_formed target.name (standing_at program target.at) body e
+  bodies_formed target body e = body_formed outside body (bodies_typed target body e)
+
+-- ---- what is seen outside of a body
+
+params_outside : (params : List (Labelled Bytes)) (sc inner : Scope) → with_parameters params sc ≡ Ok inner
+    → inner.outside ≡ sc.outside
+params_outside [] sc inner e = let same : sc ≡ inner = cc in sym (ap (λ (x : Scope). x.outside) same)
+params_outside (p ∷ rest) sc inner e = by (written_type sc p.of) e
+  where
+    by : (o : Noting Meaning)
+        → (o >>= λ of. with_parameters rest (with_variable (fixed_variable p.name.name of) sc)) ≡ Ok inner
+        → inner.outside ≡ sc.outside
+    by (Ok of) e = params_outside rest (with_variable (fixed_variable p.name.name of) sc) inner e
+    by (Err why) e = absurd cc
+
+result_outside : (sc inner : Scope) (o : Noting Meaning) → (o >>= λ of. Ok (record sc { result = of })) ≡ Ok inner
+    → inner.outside ≡ sc.outside
+result_outside sc inner (Ok of) e =
+    let same : record sc { result = of } ≡ inner = cc in sym (ap (λ (x : Scope). x.outside) same)
+result_outside sc inner (Err why) e = absurd cc
+
+scope_outside : (outside : Outside) (generics : List (Constrained Bytes)) (header : Header Bytes) (scope : Scope)
+    → body_scope outside generics header ≡ Ok scope → scope.outside ≡ outside
+scope_outside outside generics header scope e =
+    by (with_parameters header.parameters (outer_scope outside (generics_in outside generics))) refl e
+  where
+    by : (o : Noting Scope)
+        → with_parameters header.parameters (outer_scope outside (generics_in outside generics)) ≡ o
+        → (o >>= λ sc. with_result header.result sc) ≡ Ok scope → scope.outside ≡ outside
+    by (Ok sc) is e =
+        result_outside sc scope (written_type sc header.result) e
+        ∙ params_outside header.parameters (outer_scope outside (generics_in outside generics)) sc is
+    by (Err why) is e = absurd cc
+
+-- the block of a body of a derived program is good in a scope in which that is outside which its module sees
+pub body_typed : (program : List ModuleParts) (noted : List NotedParts) → Derives (outside_of program) program noted
+    → (target : Target) (body : BodyOf) → body_of program noted target ≡ Some body
+    → (sc : Scope) × (sc.outside ≡ outside_of program body.place Body) × GoodBlock body.block sc
+body_typed program noted derived target body e =
+    let good = bodies_typed (outside_of program) program noted derived target body e in (
+      good.scope,
+      scope_outside (outside_of program body.place Body) body.generics body.header good.scope good.formed,
+      good.good,
+    )

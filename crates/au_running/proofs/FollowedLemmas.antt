@@ -25,11 +25,12 @@ use Rattle.au_lowering.specs.Closed.{body_seen, row_seen, told_by, told_in}
 use Rattle.au_running.specs.Asked.{AreSimple, CallsArePlain, FieldsAreOnce, ParametersAreOnce}
 use Rattle.au_running.specs.Followed.{AreFollowed, EntryBegins, functions_in}
 use Rattle.au_running.specs.Formed.{IsFormed}
-use Rattle.au_running.specs.Suits.{EachSuits, are_once}
+use Rattle.au_running.specs.Suits.{EachSuits, are_once, guarded_functions}
 use Rattle.au_running.proofs.AskedLemmas.{block_follows}
 use Rattle.au_running.proofs.ClosedLemmas.{closed_formed}
 use Rattle.au_running.proofs.ConstantLemmas.{plain_simple}
-use Rattle.au_running.proofs.JoinedLemmas.{from_closed, in_order}
+use Rattle.au_running.proofs.OrderLemmas.{from_closed, in_order}
+use Rattle.au_lowered.specs.HomeLists.{HomesShared}
 
 -- ---- parameters
 
@@ -127,8 +128,9 @@ module _ (program : List ModuleParts) (noted : List NotedParts) (derived : IsDer
       (sym (in_order (round_in c) c.functions numbers i) ∙ e)
 
   -- code can follow them
-  pub rows_follow : EntryBegins (told_in c.types) (all_of numbers c) → AreFollowed (told_in c.types) (all_of numbers c)
-  rows_follow begins = record {
+  pub rows_follow : HomesShared (guarded_functions (all_of numbers c))
+      → EntryBegins (told_in c.types) (all_of numbers c) → AreFollowed (told_in c.types) (all_of numbers c)
+  rows_follow shared begins = record {
     formed = λ i g e.
         let f = which i g e in
         subst (λ (x : Function ℕ ClosedNote (Callee ℕ)). IsFormed x.body) f.2
@@ -142,5 +144,6 @@ module _ (program : List ModuleParts) (noted : List NotedParts) (derived : IsDer
         let f = which i g e in
         linear_same c.types of
         ∙ ap (λ (x : Function ℕ ClosedNote (Callee ℕ)). x.view.is_linear of) f.2;
+    homes = shared;
     entry = begins;
   }

@@ -29,6 +29,8 @@ use Rattle.au_running.specs.Suits.{has_literal, is_lacking, are_once, acts_plain
 use Rattle.au_running.specs.Suits.{guarded, guarded_function, guarded_functions}
 use Rattle.au_running.proofs.CodeLemmas.{lowered_same, texts_same, types_same}
 use Rattle.au_running.proofs.MeaningLemmas.{means_same}
+use Rattle.au_lowered.proofs.HomeLemmas.{homes_are_found}
+use Rattle.au_lowered.specs.HomeLists.{slot_in}
 
 -- ---- literals
 
@@ -104,9 +106,9 @@ told_linear told linear says of (Some t) found type e =
 
 -- ---- views and functions
 
-module _ {T C : Type 0} (told : ClosedType → LowType) (functions : List (Function ℕ T C)) where
+module _ {T C : Type 0} (told : ClosedType → LowType) (functions : List (Function ℕ T C)) (slot : ℕ → ℕ) where
   view_good : (see : View ℕ T C) → ((of : ClosedType) → (told of).linear ≡ see.is_linear of)
-      → GoodView (coding told functions) (guarded see)
+      → GoodView (coding told functions slot) (guarded see)
   view_good see says = record {
     constants = λ note name value e. literal_there value (passed has_literal
         (see.constant note name) value e);
@@ -126,16 +128,21 @@ module _ {T C : Type 0} (told : ClosedType → LowType) (functions : List (Funct
 module _ {T C : Type 0} (told : ClosedType → LowType) (functions : List (Function ℕ T C))
     (followed : AreFollowed told functions) where
   function_good : (i : ℕ) (o : Option (Function ℕ T C)) → slice_get functions i ≡ o → (g : Function ℕ T C)
-      → option_map guarded_function o ≡ Some g → GoodFunction told (guarded_functions functions) g
+      → option_map guarded_function o ≡ Some g
+      → GoodFunction told (guarded_functions functions) (slot_in (guarded_functions functions)) g
   function_good i None there g e = absurd cc
   function_good i (Some f) there g e =
       let is : guarded_function f ≡ g = cc in
       let formed = followed.formed i f there in
-      subst (λ x. GoodFunction told (guarded_functions functions) x) is (record {
+      subst (λ x. GoodFunction told (guarded_functions functions) (slot_in (guarded_functions functions)) x) is
+      (record {
         returns = formed.returns;
         tidy = formed.tidy;
         whole = formed.whole;
-        view = view_good told (guarded_functions functions) f.view (followed.linear i f there);
+        homes = homes_are_found (guarded_functions functions) followed.homes i (guarded_function f)
+            (slice_get-map guarded_function functions i ∙ ap (λ o. option_map guarded_function o) there);
+        view = view_good told (guarded_functions functions) (slot_in (guarded_functions functions)) f.view
+            (followed.linear i f there);
       })
 
   entry_good : (o : Option (Function ℕ T C)) → slice_get functions 0 ≡ o → (g : Function ℕ T C)
@@ -147,6 +154,7 @@ module _ {T C : Type 0} (told : ClosedType → LowType) (functions : List (Funct
 
   program_good : GoodProgram told (guarded_functions functions)
   program_good = record {
+    slot = slot_in (guarded_functions functions);
     each = λ i g e.
         function_good i (slice_get functions i) refl g (sym (slice_get-map guarded_function functions i) ∙ e);
     entry = λ g e.

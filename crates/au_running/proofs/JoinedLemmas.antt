@@ -1,16 +1,12 @@
 -- The code of a closed program does what the noted program means that it is made of.
-use Rattle.std.proofs.Common.{◌≡◌, ℕ, true, zero, suc, List, [], ◌∷◌, Option, Some, None, refl, sym, ap}
+use Rattle.std.proofs.Common.{◌≡◌, ℕ, true, [], Some, None, refl, sym, ap}
 use Rattle.std.proofs.Common.{subst, ◌∙◌, true≢false}
 use Rattle.std.specs.Prelude.{slice_get}
-use Rattle.std.specs.Option.{option_map}
-use Rattle.au_syntax.specs.Plain.{Bytes}
 use Rattle.au_type_texts.specs.Types as closed_type
 use Rattle.au_type_texts.specs.Types.{ClosedType}
 use Rattle.au_closed_trees.specs.ClosedNotes.{Callee, ClosedNote, shipped}
-use Rattle.au_closing.specs.Closes.{ClosedFunction}
 use Rattle.au_closed_meanings.specs.Shipped.{shipped_parameters}
-use Rattle.au_closed_meanings.specs.Surroundings.{Surroundings}
-use Rattle.au_closed_meanings.specs.Closed.{closed_functions, function_closed, surroundings_of}
+use Rattle.au_closed_meanings.specs.Closed.{surroundings_of}
 use Rattle.au_closed_meanings.specs.Generic.{generic_functions}
 use Rattle.au_closed_meanings.proofs.KeptLemmas.{meaning_kept, what_is}
 use Rattle.au_meaning.specs.Meanings.{mean}
@@ -18,37 +14,26 @@ use Rattle.au_meaning.specs.Views.{Function, ships}
 use Rattle.au_shipped.specs.declared.prims.ShippedCall.TheVariants as prim
 use Rattle.au_lowered.specs.FollowLaws.{Follows}
 use Rattle.au_running.specs.Formed.{IsFormed}
-use Rattle.au_running.specs.Followed.{functions_in, functions_of, AreFollowed, DerivedProgramsFollow}
+use Rattle.au_running.specs.Followed.{functions_of, AreFollowed, DerivedProgramsFollow}
 use Rattle.au_running.specs.Followed.{NoClosedViewIsGood}
 use Rattle.au_running.proofs.AskedLemmas.{asked_follow}
 use Rattle.au_running.proofs.ConstantLemmas.{plain_simple}
 use Rattle.au_running.proofs.ClosedLemmas.{closed_formed}
 use Rattle.au_running.proofs.GoodLemmas.{followed_follow}
+use Rattle.au_running.proofs.OrderLemmas.{from_closed, in_order}
+use Rattle.au_running.proofs.DerivedLemmas.{body_typed}
+use Rattle.au_running.proofs.SharedLemmas.{homes_shared}
 
 -- a shipped call that isn't plain, at a note that is in no tree
 pub none_is_good : NoClosedViewIsGood
-none_is_good told functions round good =
+none_is_good told functions round slot good =
     let note : ClosedNote = record { of = closed_type.unit; free = None; literal = None } in
-    true≢false (sym (good.plain_calls note (shipped prim.Swap) []
-    (record { parameters = shipped_parameters prim.Swap; act = ships prim.Swap None }) refl
-    prim.Swap None refl))
-
--- each closed function stands under its number
-pub in_order : (round : Bytes → Surroundings) (functions : List ClosedFunction) (numbers : ℕ → ℕ) (i : ℕ)
-    → slice_get (functions_in round numbers functions) i ≡ closed_functions round functions numbers i
-in_order round [] numbers i = refl
-in_order round (f ∷ rest) numbers zero = refl
-in_order round (f ∷ rest) numbers (suc i) = in_order round rest (λ n. numbers (suc n)) i
-
--- what is said of each closed function is said of each in order
-pub from_closed : (round : Bytes → Surroundings) (number : ℕ) (o : Option ClosedFunction)
-    (g : Function ℕ ClosedNote (Callee ℕ)) → option_map (function_closed round number) o ≡ Some g
-    → (f : ClosedFunction) × (o ≡ Some f) × (function_closed round number f ≡ g)
-from_closed round number None g e = absurd cc
-from_closed round number (Some f) g e = (f, refl, cc)
+    true≢false (sym (good.plain_calls note (shipped prim.Unbox) []
+    (record { parameters = shipped_parameters prim.Unbox; act = ships prim.Unbox None }) refl
+    prim.Unbox None refl))
 
 pub derived_follow : DerivedProgramsFollow
-derived_follow program noted derived entry functions closes first numbers alike told linear once
+derived_follow program noted derived entry functions closes first numbers alike apart told linear once
     fields_once plain begins input ticks claim =
     let round = surroundings_of program functions in
     let says = what_is program functions in
@@ -65,6 +50,8 @@ derived_follow program noted derived entry functions closes first numbers alike 
       linear = λ i g e of.
           let f = which i g e in
           linear of ∙ ap (λ (x : Function ℕ ClosedNote (Callee ℕ)). x.view.is_linear of) f.2;
+      homes = homes_shared program noted entry functions closes round (λ of. true) says.0 says.1
+          (λ one body is. body_typed program noted derived one.of body is) first numbers alike apart;
       entry = begins;
     } in
     let same : mean (λ i. slice_get all i) 0 input ticks

@@ -16,6 +16,11 @@ pub mod BrokenLemmas
 mod RenotedLemmas
 mod GoodOnceLemmas
 mod DerivedLemmas
+mod CaseNames
+mod RenotedHomes
+mod TakenLemmas
+mod SharedLemmas
+mod OrderLemmas
 pub mod ClosedLemmas
 pub mod CodeLemmas
 pub mod MeaningLemmas

@@ -8,9 +8,9 @@ use Rattle.au_closed_trees.specs.Changes.{Change}
 use Rattle.au_type_texts.specs.Types.{ClosedType}
 use Rattle.au_closed_trees.specs.Renoted.{expression_renoted, expressions_renoted, arguments_renoted}
 use Rattle.au_closed_trees.specs.Renoted.{statement_renoted, block_renoted, branches_renoted, arms_renoted}
-use Rattle.au_meaning.specs.Acts.{begins, new_names}
+use Rattle.au_meaning.specs.Acts.{begins, closing, ends_frame, new_names}
 use Rattle.au_meaning.specs.Expressions.{acts, calls, note_of}
-use Rattle.au_meaning.specs.Meanings.{begun, call_at, enters, first_world, leaves_frame, mean, parameters_of}
+use Rattle.au_meaning.specs.Meanings.{begun, call_at, enters, first_world, mean, parameters_of, returned}
 use Rattle.au_meaning.specs.Meanings.{scope_of, seen}
 use Rattle.au_meaning.specs.Names.{Scope, names_in_block}
 use Rattle.au_meaning.specs.Statements.{run_block}
@@ -141,7 +141,7 @@ module _ {T C : Type 0} (see : View ℕ T C) (mentioned : T → Bytes → Type 0
     each (call n f args c) ok = (claim n.note c f.name ok.0, each_all args ok.1)
     each (named_call n f args c) ok = (claim n.note c f.name ok.0, each_named args ok.1)
     each (parenthesized n e) ok = each e ok
-    each (dereference n e) ok = tt
+    each (dereference n e) ok = each e ok
     each (borrow n mode x) ok = tt
     each (borrow_part n r fields) ok = tt
     each (binary n op a b) ok = (each a ok.0, each b ok.1)
@@ -163,14 +163,14 @@ module _ {T C : Type 0} (see : View ℕ T C) (mentioned : T → Bytes → Type 0
     each_of (declare at b n t e) ok = (fine (note_of e), each e ok)
     each_of (destructure at binds e) ok = (fine (note_of e), each e ok)
     each_of (assign at n fields e) ok = each e ok
-    each_of (assign_through at n fields e) ok = tt
+    each_of (assign_through at n fields e) ok = each e ok
     each_of (conditional at tests) ok = each_test tests ok
     each_of (conditional_else at tests b) ok = (each_test tests ok.0, each_block b ok.1)
     each_of (case_of at e all) ok = (fine (note_of e), each e ok.0, each_arm all ok.1)
     each_of (while_loop at e b) ok = (each e ok.0, each_block b ok.1)
     each_of (for_loop at n a z b) ok = (fine (note_of a), each a ok.0, each z ok.1, each_block b ok.2)
-    each_of (borrow_in at access x r region b stop) ok = tt
-    each_of (borrow_typed at r t mode x b stop) ok = tt
+    each_of (borrow_in at access x r region b stop) ok = each_block b ok
+    each_of (borrow_typed at r t mode x b stop) ok = each_block b ok
     each_of (discard at e) ok = each e ok
     each_of (return_of at e) ok = each e ok
 
@@ -219,6 +219,7 @@ module _ {T C : Type 0} (see : View ℕ T C) where
       fields = λ of k tag. refl;
       inside = λ of k tag. found_counts (see.fields of tag);
       tags = λ of k name. refl;
+      references = record { reads = λ of. refl; writes = λ of. refl };
     }
 
     block_means : (depth next : ℕ) (scope : Scope) (b : Statements Bytes T C) → SuitsBlock see b
@@ -248,9 +249,10 @@ module _ {T C : Type 0} where
   enters_same invoke other same depth (Some f) ok =
       λ i args. where_true (length args == length f.parameters) (do
         does (begins (new_names f.first args (names_in_block f.body)))
-        flow ← block_means f.view invoke other same depth (f.first + length args) (scope_of f) f.body
-            (ok f refl) i
-        leaves_frame flow)
+        value ← closing (block_means f.view invoke other same depth (f.first + length args) (scope_of f)
+            f.body (ok f refl) i >>= returned)
+        does ends_frame
+        pure value)
 
   module _ (functions : List (Function ℕ T C)) (ok : EachSuits functions) where
     abbrev all : ℕ → Option (Function ℕ T C)

@@ -28,10 +28,11 @@ use Rattle.au_shipped.specs.declared.prims.AbortKind.TheVariants as kind
 use Rattle.au_lowered.specs.Premises.{GoodView, Placed, numbered}
 use Rattle.au_lowered.specs.FollowPrograms.{EntryTakes, GoodProgram, HasFunction, HasProgram, coding}
 use Rattle.au_lowered.proofs.PlacedLemmas.{has_program}
-use Rattle.au_lowered.proofs.RunLemmas.{begins_none, begins_root, runs_follow}
+use Rattle.au_lowered.proofs.RunLemmas.{begins_none, begins_root, entry_slots, runs_follow}
 use Rattle.au_lowered.proofs.TopLemmas.{Claims, Shows, ending_of, enters_if, entry_frame, first_common}
 use Rattle.au_lowered.specs.Runs.{run_at}
-use Rattle.au_lowered.specs.Sides.{Both, Coding, Common, Spot, all_meant, spot}
+use Rattle.au_lowered.specs.Sides.{Both, Coding, Common, Spot, all_meant}
+use Rattle.au_lowered.specs.Frames.{spot}
 use Rattle.au_syntax.specs.Plain.{Bytes}
 
 -- what is stuck doesn't abort
@@ -56,7 +57,12 @@ module _ {T C : Type 0} (told : ClosedType → LowType) (fn : Function ℕ T C) 
 
   -- the code with these numbers
   abbrev other : Coding
-  other = record { code = code; text = other_number; of = type_number (types_in (fn ∷ rest)) }
+  other = record {
+    code = code;
+    text = other_number;
+    of = type_number (types_in (fn ∷ rest));
+    slot = good.slot;
+  }
 
   number_same : (text : Bytes) → text_bytes code (first_number text) ≡ text
       → other_number text ≡ first_number text
@@ -66,7 +72,7 @@ module _ {T C : Type 0} (told : ClosedType → LowType) (fn : Function ℕ T C) 
 
   -- ---- the code has its functions
 
-  placed_too : (i : ℕ) (get : ℕ → Option Draft) → Placed (coding told (fn ∷ rest)) i get → Placed other i get
+  placed_too : (i : ℕ) (get : ℕ → Option Draft) → Placed (coding told (fn ∷ rest) good.slot) i get → Placed other i get
   placed_too i get p = record {
     has = λ place draft h. p.has place draft h ∙ ap (λ x. Some x) (numbered_same place draft h);
     labels = λ place x h. p.labels place x h;
@@ -78,14 +84,14 @@ module _ {T C : Type 0} (told : ClosedType → LowType) (fn : Function ℕ T C) 
   }
     where
       numbered_same : (place : ℕ) (draft : Draft) → get place ≡ Some draft
-          → numbered (coding told (fn ∷ rest)) draft ≡ numbered other draft
+          → numbered (coding told (fn ∷ rest) good.slot) draft ≡ numbered other draft
       numbered_same place (plain x) h = refl
       numbered_same place (pushes_text text) h =
           ap (λ n. instr.PushText n) (sym (number_same text (p.texts place text h).0))
       numbered_same place (makes_case of tag order home) h = refl
       numbered_same place (ships_birth call of order) h = refl
 
-  view_too : (see : View ℕ T C) → GoodView (coding told (fn ∷ rest)) see → GoodView other see
+  view_too : (see : View ℕ T C) → GoodView (coding told (fn ∷ rest) good.slot) see → GoodView other see
   view_too see v = record {
     constants = λ note name value e. v.constants note name value e;
     parameters = λ note c name one e. v.parameters note c name one e;
@@ -95,7 +101,7 @@ module _ {T C : Type 0} (told : ClosedType → LowType) (fn : Function ℕ T C) 
 
   has_too : HasProgram other (λ i. slice_get (fn ∷ rest) i)
   has_too i f e =
-      let h : HasFunction (coding told (fn ∷ rest)) i f = has_program told (fn ∷ rest) good i f e in
+      let h : HasFunction (coding told (fn ∷ rest) good.slot) i f = has_program told (fn ∷ rest) good i f e in
       record {
         low_function = h.low_function;
         there = h.there;
@@ -104,6 +110,7 @@ module _ {T C : Type 0} (told : ClosedType → LowType) (fn : Function ℕ T C) 
         placed = placed_too i _ h.placed;
         view = view_too f.view h.view;
         whole = h.whole;
+        homes = h.homes;
       }
 
   -- ---- a run with the other numbers
@@ -135,7 +142,7 @@ module _ {T C : Type 0} (told : ClosedType → LowType) (fn : Function ℕ T C) 
   unfolding call_at follows
   entry_ends input ticks [] is claim =
       let functions = λ (i : ℕ). slice_get (fn ∷ rest) i in
-      let s = spot other entry_frame 0 [] (new_slots (slots_of fn) []) (first_common other input) in
+      let s = spot other entry_frame 0 [] (entry_slots (new_slots (slots_of fn) [])) (first_common other input) in
       let call : List Value → Action Value = call_at functions (suc ticks) 0 in
       let mean_is : mean functions 0 input ticks ≡ seen ticks (call [] (first_world input) ticks) = ap (λ
       params. seen ticks (begun params call (first_world input) ticks)) is in
@@ -146,7 +153,7 @@ module _ {T C : Type 0} (told : ClosedType → LowType) (fn : Function ℕ T C) 
   entry_ends input ticks (p ∷ []) is claim =
       let functions = λ (i : ℕ). slice_get (fn ∷ rest) i in
       let root : Both other = values.root 0 in
-      let s = spot other entry_frame 0 [] (new_slots (slots_of fn) (values.root 0 ∷ [])) (root_too p input) in
+      let s = spot other entry_frame 0 [] (entry_slots (new_slots (slots_of fn) (values.root 0 ∷ []))) (root_too p input) in
       let call : List Value → Action Value = call_at functions (suc ticks) 0 in
       let mean_is : mean functions 0 input ticks ≡ seen ticks (call (values.root 0 ∷ []) (root_born p.of
       (first_world input)) ticks) = ap (λ params. seen ticks (begun params call (first_world input)

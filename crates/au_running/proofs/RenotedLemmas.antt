@@ -98,8 +98,8 @@ module _ {T C U D : Type 0} (change : Change Bytes T C U D) where
     binds_kept (case_of at e all) o = arms_binds_kept all o
     binds_kept (while_loop at e b) o = block_binds_kept b o
     binds_kept (for_loop at n a z b) o = block_binds_kept b o
-    binds_kept (borrow_in at access x r region b stop) o = tt
-    binds_kept (borrow_typed at r of mode x b stop) o = tt
+    binds_kept (borrow_in at access x r region b stop) o = block_binds_kept b o
+    binds_kept (borrow_typed at r of mode x b stop) o = block_binds_kept b o
     binds_kept (discard at e) o = tt
     binds_kept (return_of at e) o = tt
 

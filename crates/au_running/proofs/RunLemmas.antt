@@ -12,6 +12,7 @@ use Rattle.au_closed_meanings.specs.Listed.{counts_by}
 use Rattle.au_closed_meanings.specs.Numbers.{first_name, numbers_of}
 use Rattle.au_closed_meanings.proofs.InRowLemmas.{numbered_alike}
 use Rattle.au_closed_meanings.proofs.KeptLemmas.{meaning_kept}
+use Rattle.au_closed_meanings.proofs.NumberLemmas.{first_names_apart}
 use Rattle.au_closed_meanings.proofs.ListedCountLemmas.{listed_count}
 use Rattle.au_low.specs.declared.code.Code.{Code}
 use Rattle.au_lowered.specs.Programs.{lowered}
@@ -20,12 +21,13 @@ use Rattle.au_meaning.specs.Meanings.{begun, call_at, first_world, mean, paramet
 use Rattle.au_meaning.specs.Views.{Field, Function}
 use Rattle.au_meaning.specs.Worlds.{Outcome, stuck}
 use Rattle.au_lowered.specs.FollowPrograms.{EntryTakes}
+use Rattle.au_lowered.specs.HomeLists.{HomesShared}
 use Rattle.au_running.specs.Asked.{FieldsAreOnce, ParametersAreOnce}
 use Rattle.au_running.specs.Followed.{AreFollowed, EntryBegins}
 use Rattle.au_running.specs.Suits.{guarded_functions}
 use Rattle.au_running.proofs.CodeLemmas.{lowered_same}
 use Rattle.au_running.proofs.GoodLemmas.{guarded_good}
-use Rattle.au_running.proofs.JoinedLemmas.{in_order}
+use Rattle.au_running.proofs.OrderLemmas.{in_order}
 use Rattle.au_running.proofs.MeaningLemmas.{means_same}
 use Rattle.au_running.specs.Meant.{means}
 use Rattle.au_running.specs.Runs.{IsRunnable, LoweredProgramsRun, RefinesOn, Refines}
@@ -33,6 +35,8 @@ use Rattle.au_running.proofs.EndLemmas.{good_shows}
 use Rattle.au_running.proofs.FollowedLemmas.{all_of, names_same, round_in, rows_follow}
 use Rattle.au_running.proofs.NumberingLemmas.{code_same}
 use Rattle.au_running.proofs.RowLemmas.{lists_types, made_rows, rows_say_so, types_of}
+use Rattle.au_running.proofs.DerivedLemmas.{body_typed}
+use Rattle.au_running.proofs.SharedLemmas.{homes_shared}
 
 -- where a run isn't stuck, the entry has one parameter or none
 entry_begins : (functions : List (Function ℕ ClosedNote (Callee ℕ))) (input : List ℕ) (ticks : ℕ)
@@ -77,6 +81,15 @@ module _ (program : List ModuleParts) (noted : List NotedParts) (owner name : By
       (lists_types program c.functions c.types closes.types)) input ticks
       ∙ sym (λ j. mean (λ i. in_order (round_in c) c.functions numbers i j) 0 input ticks)
 
+  -- functions that share a number of a declaration have the same slots
+  shared : HomesShared (guarded_functions (all_of numbers c))
+  shared =
+      homes_shared program noted (plain_instance closes.entry) c.functions closes.functions (round_in c)
+      (counts_by (types_of c.types)) says_what_is
+      (listed_count program c.functions (types_of c.types) (lists_types program c.functions c.types closes.types))
+      (λ one body is. body_typed program noted runnable.derived one.of body is) (first_name program noted) numbers
+      (numbered_alike program noted closes.functions.instances) (first_names_apart program noted)
+
   -- where that isn't stuck, code can follow them
   pub are_followed : (input : List ℕ) (ticks : ℕ)
       → ((means program noted closes.entry input ticks).ending ≡ stuck → ⊥)
@@ -87,7 +100,7 @@ module _ (program : List ModuleParts) (noted : List NotedParts) (owner name : By
       (λ e. claim (ap (λ (o : Outcome). o.ending) (means_so input ticks) ∙ e)) in
       rows_follow program noted runnable.derived (plain_instance closes.entry) c
       closes.functions (types_of c.types) (made_rows program c.functions c.types closes.types)
-      runnable.plain once fields numbers begins
+      runnable.plain once fields numbers shared begins
 
   run_shown : Refines (code_of c) (means program noted closes.entry)
   run_shown input limit claim =

@@ -16,7 +16,9 @@ use Rattle.au_closed_meanings.specs.Surroundings.{Surroundings, view_in}
 use Rattle.au_closed_meanings.specs.Closed.{function_closed, surroundings_of}
 use Rattle.au_closed_meanings.specs.Generic.{generic_functions, linear_in}
 use Rattle.au_closed_meanings.specs.Kept.{NumberAlike}
+use Rattle.au_closed_meanings.specs.Numbers.{NumbersApart}
 use Rattle.au_lowered.specs.FollowLaws.{Follows}
+use Rattle.au_lowered.specs.HomeLists.{HomesShared}
 use Rattle.au_lowered.specs.Premises.{GoodView}
 use Rattle.au_lowered.specs.FollowPrograms.{coding, EntryTakes, GoodProgram}
 use Rattle.au_running.specs.Asked.{CallsArePlain, FieldsAreOnce, ParametersAreOnce}
@@ -29,12 +31,14 @@ module _ {T C : Type 0} (told : ClosedType → LowType) (functions : List (Funct
   EntryBegins = (f : Function ℕ T C) → slice_get functions 0 ≡ Some f → EntryTakes f.parameters
 
   -- Functions whose code does what they mean: each is formed as it should be, code can follow each mention
-  -- and each call in it, a type is told as linear where the function knows that it is, and the entry begins.
+  -- and each call in it, a type is told as linear where the function knows that it is, functions that share a
+  -- number of a declaration have the same slots, and the entry begins.
   pub record AreFollowed : Type 0 where
     pub formed : (i : ℕ) (f : Function ℕ T C) → slice_get functions i ≡ Some f → IsFormed f.body
     pub suits : EachSuits functions
     pub linear : (i : ℕ) (f : Function ℕ T C) → slice_get functions i ≡ Some f → (of : ClosedType)
         → (told of).linear ≡ f.view.is_linear of
+    pub homes : HomesShared (guarded_functions functions)
     pub entry : EntryBegins
 
 module _ (T C : Type 0) where
@@ -57,7 +61,7 @@ module _ (T C : Type 0) where
 abbrev pub NoClosedViewIsGood : Type 0
 NoClosedViewIsGood =
     (told : ClosedType → LowType) (functions : List (Function ℕ ClosedNote (Callee ℕ))) (round : Surroundings)
-    → GoodView (coding told functions) (view_in round) → ⊥
+    → (slot : ℕ → ℕ) → GoodView (coding told functions slot) (view_in round) → ⊥
 
 -- the closed functions in order as they are run, each with a number for its first name
 abbrev pub functions_in : (Bytes → Surroundings) → (ℕ → ℕ) → List ClosedFunction
@@ -74,13 +78,14 @@ functions_of program numbers functions = functions_in (surroundings_of program f
 -- A run of the code that a derived program is lowered to, from the functions that it closes to, does what the
 -- noted program means, where that isn't stuck. This is asked besides: parameters and fields have names of
 -- their own, shipped calls are plain, a type is told as linear where the program says so, and the entry has
--- no parameter but the root.
+-- no parameter but the root. No number is that of two declarations, as with the numbers of `first_name`.
 abbrev pub DerivedProgramsFollow : Type 0
 DerivedProgramsFollow =
     (program : List ModuleParts) (noted : List NotedParts) → IsDerived program noted
     → (entry : Instance) (functions : List ClosedFunction)
     → (closes : ClosesFunctions program noted entry functions)
     → (first : Instance → ℕ) (numbers : ℕ → ℕ) → NumberAlike closes.instances first numbers
+    → NumbersApart program noted first
     → (told : ClosedType → LowType) → ((of : ClosedType) → (told of).linear ≡ linear_in program of)
     → ParametersAreOnce functions → FieldsAreOnce program → CallsArePlain functions
     → EntryBegins told (functions_of program numbers functions)

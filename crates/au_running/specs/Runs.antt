@@ -50,7 +50,7 @@ Refines code meant =
     → RefinesOn code (meant input) input limit
 
 -- What is asked of a program whose runs are spoken of: it is derived, its declarations are good, and what it
--- closes to calls none of the shipped functions of references, boxes, buffers and the terminal.
+-- closes to calls none of the shipped functions of boxes, buffers and the terminal.
 pub record IsRunnable (program : List ModuleParts) (noted : List NotedParts) (c : ClosedProgram)
     : Type 0 where
   pub derived : IsDerived program noted

@@ -17,8 +17,8 @@ use au_noting_programs::NotedProgram;
 use std::alloc::Global;
 
 /// Runs an accepted program from the entry that is named by its module and its own name, for at most so many
-/// steps, on an input and a sink. What it closes to from there must call no shipped function of references,
-/// boxes, buffers or the terminal.
+/// steps, on an input and a sink. What it closes to from there must call no shipped function of boxes,
+/// buffers or the terminal.
 ///
 /// # Errors
 ///

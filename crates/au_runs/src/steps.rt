@@ -60,7 +60,7 @@ pub fn act(state: &mut State, alloc: Global, code: &Code, instr: &Instr) -> Resu
             module,
         } => { state.make(alloc, code, *of, *tag, order.as_slice(), module) }
         Instr::Take(slot) => state.take_record(*slot),
-        Instr::Case { slot, labels } => state.take_case(code, *slot, labels.as_slice()),
+        Instr::Case { slot, labels } => state.take_case(alloc, code, *slot, labels.as_slice()),
         Instr::Call { function, order } => call(state, alloc, code, *function, order.as_slice()),
         Instr::Shipped { call, of, order } => ship(
             state,

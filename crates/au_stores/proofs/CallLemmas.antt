@@ -10,7 +10,9 @@ use Rattle.au_shipped.specs.declared.prims.AbortKind.TheVariants as kind
 use Rattle.au_effects.specs.Values.{Place, unit, number, terminal}
 use Rattle.au_effects.specs.Parts.{along}
 use Rattle.au_effects.specs.Worlds as effect
-use Rattle.au_effects.specs.Places.{at}
+use Rattle.au_effects.specs.Places.{at, exchanged}
+use Rattle.au_effects.specs.References.{reference_in, put_behind}
+use Rattle.au_effects.proofs.PlaceLemmas.{pair_told, exchanged_told}
 use Rattle.au_effects.specs.Answers as answer
 use Rattle.au_effects.specs.Calls as call
 use Rattle.au_low.specs.Machines.{Low, LowWorld}
@@ -33,22 +35,52 @@ module _ {A : Type 0} (form : Low → Option A) (w : LowWorld) (go : ℕ → A �
   reached_found borrow (Some one) = refl
 
   reached_held : (borrow : ℕ) (found : Option Low)
-      → call.given {A = ℕ × A} (along found (λ held. along (form held) (λ one. Some (borrow, one))))
+      → call.given {A = ℕ × A} (along found (λ held_value. along (form held_value) (λ one. Some (borrow, one))))
       (λ one. go one.0 one.1)
-      ≡ call.given found (λ held. call.given (form held) (go borrow))
+      ≡ call.given found (λ held_value. call.given (form held_value) (go borrow))
   reached_held borrow None = refl
-  reached_held borrow (Some held) = reached_found borrow (form held)
+  reached_held borrow (Some held_value) = reached_found borrow (form held_value)
 
   reached_lent : (found : Option (ℕ × Place))
       → call.given {A = ℕ × A} (along found
-      (λ one. along (at one.1 w) (λ held. along (form held) (λ x. Some (one.0, x))))) (λ one. go one.0 one.1)
-      ≡ call.given found (λ one. call.given (at one.1 w) (λ held. call.given (form held) (go one.0)))
+      (λ one. along (at one.1 w) (λ held_value. along (form held_value) (λ x. Some (one.0, x))))) (λ one. go one.0 one.1)
+      ≡ call.given found (λ one. call.given (at one.1 w) (λ held_value. call.given (form held_value) (go one.0)))
   reached_lent None = refl
   reached_lent (Some one) = reached_held one.0 (at one.1 w)
 
   pub use_is : (value : Low) → call.given (reached_by form value w) (λ one. go one.0 one.1)
-      ≡ call.use_of value w (λ borrow place held. call.given (form held) (go borrow))
-  use_is value = reached_lent (call.reference_in value)
+      ≡ call.use_of value w (λ borrow place held_value. call.given (form held_value) (go borrow))
+  use_is value = reached_lent (reference_in value)
+
+-- a value goes into the place of a reference, and what was there comes out
+module _ (value new : Low) (w : LowWorld) (one : ℕ × Place) (is : Some one ≡ reference_in value) where
+  swapped_by : Option (Low × LowWorld) → Comes
+  swapped_by found = call.given found (λ pair. answer.gives pair.0 pair.1)
+
+  swap_is : swapped_by (option_map (pair_told (effect.used one.0)) (exchanged one.1 new w))
+      ≡ call.swap_call w value new
+  unfolding swapped_by
+  swap_is =
+      ap swapped_by (sym (exchanged_told one.1 new (effect.used one.0) w))
+      ∙ ap (λ (found : Option (ℕ × Place)). call.given found
+      (λ one. swapped_by (put_behind one new w))) is
+
+  pub swapped_none : None ≡ exchanged one.1 new w → answer.none ≡ call.swap_call w value new
+  unfolding swapped_by
+  swapped_none none =
+      ap (λ (found : Option (Low × LowWorld)). swapped_by (option_map (pair_told (effect.used one.0)) found))
+      none
+      ∙ swap_is
+
+  pub swapped : (old : Low) (mid after : LowWorld) → Some (old, mid) ≡ exchanged one.1 new w
+      → after ≡ effect.tells (effect.used one.0) mid
+      → answer.gives old after ≡ call.swap_call w value new
+  unfolding swapped_by
+  swapped old mid after there told =
+      ap (answer.gives old) told
+      ∙ ap (λ (found : Option (Low × LowWorld)). swapped_by (option_map (pair_told (effect.used one.0)) found))
+      there
+      ∙ swap_is
 
 -- a use of a buffer, and what it comes to
 module _ (value : Low) (w : LowWorld) (go : ℕ → List Low → LowWorld → Comes) where
@@ -119,8 +151,8 @@ insert_is value new w after borrow id births (Some values) h is there more told 
     (call.with_elements id (values ++ new ∷ []) told)) borrow id values h is
 
 -- births of which one gets what it has
-elements_held : (held : effect.Held ℕ) (values : List Low) → Some values ≡ call.elements_in held
-    → effect.elements values ≡ held
+elements_held : (birth_held : effect.Held ℕ) (values : List Low) → Some values ≡ call.elements_in birth_held
+    → effect.elements values ≡ birth_held
 elements_held effect.nothing values h = cc
 elements_held (effect.content value) values h = cc
 elements_held (effect.elements others) values h = cc
@@ -128,10 +160,10 @@ elements_held (effect.elements others) values h = cc
 pub elements_same : (births : List (effect.Held ℕ)) (id : ℕ) (values : List Low)
     → Some values ≡ held_elements id births → slice_set births id (effect.elements values) ≡ births
 elements_same [] id values h = refl
-elements_same (held ∷ births) zero values h =
-    ap (λ (one : effect.Held ℕ). one ∷ births) (elements_held held values h)
-elements_same (held ∷ births) (suc id) values h =
-    ap (λ (more : List (effect.Held ℕ)). held ∷ more) (elements_same births id values h)
+elements_same (birth_held ∷ births) zero values h =
+    ap (λ (one : effect.Held ℕ). one ∷ births) (elements_held birth_held values h)
+elements_same (birth_held ∷ births) (suc id) values h =
+    ap (λ (more : List (effect.Held ℕ)). birth_held ∷ more) (elements_same births id values h)
 
 -- a list of which nothing is last
 no_last : (values : List Low) → None ≡ slice_get values (length values - 1)

@@ -1,4 +1,5 @@
 pub mod CallLemmas
+pub mod CaseLemmas
 pub mod CloseLemmas
 pub mod FillLemmas
 pub mod FrameLemmas

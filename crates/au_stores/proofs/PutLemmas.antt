@@ -15,21 +15,21 @@ use Rattle.au_stores.specs.Stores.{world_of, came_out}
 use Rattle.au_stores.proofs.PartLemmas.{part_missing}
 
 -- a slot that gets what it holds
-slots_same : (names : List (Option Low)) (slot : ℕ) (held : Option Low)
-    → along (slice_get names slot) (λ value. value) ≡ held → slice_set names slot held ≡ names
-slots_same [] slot held h = refl
-slots_same (one ∷ names) zero held h = ap (λ (o : Option Low). o ∷ names) (sym h)
-slots_same (one ∷ names) (suc slot) held h =
-    ap (λ (more : List (Option Low)). one ∷ more) (slots_same names slot held h)
+slots_same : (names : List (Option Low)) (slot : ℕ) (held_value : Option Low)
+    → along (slice_get names slot) (λ value. value) ≡ held_value → slice_set names slot held_value ≡ names
+slots_same [] slot held_value h = refl
+slots_same (one ∷ names) zero held_value h = ap (λ (o : Option Low). o ∷ names) (sym h)
+slots_same (one ∷ names) (suc slot) held_value h =
+    ap (λ (more : List (Option Low)). one ∷ more) (slots_same names slot held_value h)
 
-frames_same : (frames : List (List (Option Low))) (frame slot : ℕ) (held : Option Low)
-    → along (slice_get frames frame) (λ names. along (slice_get names slot) (λ value. value)) ≡ held
-    → slice_set frames frame (with_name slot held (slice_get frames frame)) ≡ frames
-frames_same [] frame slot held h = refl
-frames_same (names ∷ frames) zero slot held h =
-    ap (λ (ns : List (Option Low)). ns ∷ frames) (slots_same names slot held h)
-frames_same (names ∷ frames) (suc frame) slot held h =
-    ap (λ (more : List (List (Option Low))). names ∷ more) (frames_same frames frame slot held h)
+frames_same : (frames : List (List (Option Low))) (frame slot : ℕ) (held_value : Option Low)
+    → along (slice_get frames frame) (λ names. along (slice_get names slot) (λ value. value)) ≡ held_value
+    → slice_set frames frame (with_name slot held_value (slice_get frames frame)) ≡ frames
+frames_same [] frame slot held_value h = refl
+frames_same (names ∷ frames) zero slot held_value h =
+    ap (λ (ns : List (Option Low)). ns ∷ frames) (slots_same names slot held_value h)
+frames_same (names ∷ frames) (suc frame) slot held_value h =
+    ap (λ (more : List (List (Option Low))). names ∷ more) (frames_same frames frame slot held_value h)
 
 -- a slot that is set twice
 frames_twice : (frames : List (List (Option Low))) (frame slot : ℕ) (first second : Option Low)
@@ -46,10 +46,10 @@ frames_twice (names ∷ frames) (suc frame) slot first second =
 with_frames : LowWorld → List (List (Option Low)) → LowWorld
 with_frames w frames = record w { frames = frames }
 
-pub name_same : (frame slot : ℕ) (held : Option Low) (w : LowWorld) → name_at frame slot w ≡ held
-    → name_set frame slot held w ≡ w
+pub name_same : (frame slot : ℕ) (held_value : Option Low) (w : LowWorld) → name_at frame slot w ≡ held_value
+    → name_set frame slot held_value w ≡ w
 unfolding with_frames
-name_same frame slot held w h = ap (with_frames w) (frames_same w.frames frame slot held h)
+name_same frame slot held_value w h = ap (with_frames w) (frames_same w.frames frame slot held_value h)
 
 pub name_twice : (frame slot : ℕ) (first second : Option Low) (w : LowWorld)
     → name_set frame slot second (name_set frame slot first w) ≡ name_set frame slot second w
@@ -101,7 +101,7 @@ slot_put frame slot value w mid after first second =
     second ∙ ap (name_set frame slot value) first ∙ name_twice frame slot None value w
 
 -- the content of a box
-held_content : (held : effect.Held ℕ) (base : Low) → content_in held ≡ Some base → effect.content base ≡ held
+held_content : (birth_held : effect.Held ℕ) (base : Low) → content_in birth_held ≡ Some base → effect.content base ≡ birth_held
 held_content effect.nothing base h = cc
 held_content (effect.content value) base h = cc
 held_content (effect.elements values) base h = cc
@@ -109,18 +109,18 @@ held_content (effect.elements values) base h = cc
 births_same : (births : List (effect.Held ℕ)) (id : ℕ) (base : Low)
     → along (slice_get births id) content_in ≡ Some base → slice_set births id (effect.content base) ≡ births
 births_same [] id base h = refl
-births_same (held ∷ births) zero base h =
-    ap (λ (one : effect.Held ℕ). one ∷ births) (held_content held base h)
-births_same (held ∷ births) (suc id) base h =
-    ap (λ (more : List (effect.Held ℕ)). held ∷ more) (births_same births id base h)
+births_same (birth_held ∷ births) zero base h =
+    ap (λ (one : effect.Held ℕ). one ∷ births) (held_content birth_held base h)
+births_same (birth_held ∷ births) (suc id) base h =
+    ap (λ (more : List (effect.Held ℕ)). birth_held ∷ more) (births_same births id base h)
 
-pub held_put : (births mid after : List (effect.Held ℕ)) (id : ℕ) (held : effect.Held ℕ)
-    → mid ≡ slice_set births id effect.nothing → after ≡ slice_set mid id held
-    → after ≡ slice_set births id held
-held_put births mid after id held first second =
+pub held_put : (births mid after : List (effect.Held ℕ)) (id : ℕ) (birth_held : effect.Held ℕ)
+    → mid ≡ slice_set births id effect.nothing → after ≡ slice_set mid id birth_held
+    → after ≡ slice_set births id birth_held
+held_put births mid after id birth_held first second =
     second
-    ∙ ap (λ (ones : List (effect.Held ℕ)). slice_set ones id held) first
-    ∙ set_twice births id effect.nothing held
+    ∙ ap (λ (ones : List (effect.Held ℕ)). slice_set ones id birth_held) first
+    ∙ set_twice births id effect.nothing birth_held
 
 pub content_kept : (id : ℕ) (path : List ℕ) (new base : Low) (old : Option Cell)
     (births after : List (effect.Held ℕ))

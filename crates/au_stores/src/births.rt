@@ -49,10 +49,10 @@ impl World {
     ///
     /// `Memory` when memory runs out.
     pub fn unbox(&mut self, id: u64) -> Result<Option<Cell>, Memory>
-        ensures content { IfOk result (λ held. option_map low held
+        ensures content { IfOk result (λ held_value. option_map low held_value
             ≡ along (slice_get (world_of self.old).births id) content_in) }
-        ensures world { IfOk result (λ held. world_of self.new
-            ≡ (if is_some held then effect.ends id (world_of self.old) else world_of self.old)) }
+        ensures world { IfOk result (λ held_value. world_of self.new
+            ≡ (if is_some held_value then effect.ends id (world_of self.old) else world_of self.old)) }
         ensures frame { OnOk result (top_frame self.new ≡ top_frame self.old) }
     {
         match take_content(&mut self.births, id as usize) {
@@ -66,11 +66,11 @@ impl World {
 }
 
 /// Puts what there is of a birth, if it is there.
-pub(crate) fn put_held(births: &mut Vec<Held>, index: usize, held: Held)
-    ensures { map held_of births.new.items ≡ slice_set (map held_of births.old.items) index (held_of held) }
+pub(crate) fn put_held(births: &mut Vec<Held>, index: usize, birth_held: Held)
+    ensures { map held_of births.new.items ≡ slice_set (map held_of births.old.items) index (held_of birth_held) }
 {
     if index < births.len() {
-        births[index] = held;
+        births[index] = birth_held;
     }
 }
 
@@ -86,8 +86,8 @@ pub(crate) fn take_elements(births: &mut Vec<Held>, index: usize) -> Option<Vec<
     if births.len() <= index {
         return None;
     }
-    let held = mem::replace(&mut births[index], Held::Nothing);
-    match held {
+    let birth_held = mem::replace(&mut births[index], Held::Nothing);
+    match birth_held {
         Held::Elements(cells) => Some(cells),
         other => {
             births[index] = other;
@@ -108,8 +108,8 @@ pub(crate) fn take_content(births: &mut Vec<Held>, index: usize) -> Option<Cell>
     if births.len() <= index {
         return None;
     }
-    let held = mem::replace(&mut births[index], Held::Nothing);
-    match held {
+    let birth_held = mem::replace(&mut births[index], Held::Nothing);
+    match birth_held {
         Held::Content(content) => Some(content),
         other => {
             births[index] = other;

@@ -98,8 +98,8 @@ impl World {
         ensures { result ≡ reached_by call.box_in (low reference.now) (world_of self.now) }
     {
         let one = reference_in(reference)?;
-        let held = self.at(one)?;
-        let id = box_in(held)?;
+        let held_value = self.at(one)?;
+        let id = box_in(held_value)?;
         Some((one.borrow, id))
     }
 }

@@ -197,8 +197,8 @@ impl World {
         ensures { result ≡ reached_by call.buffer_in (low reference.now) (world_of self.now) }
     {
         let one = reference_in(reference)?;
-        let held = self.at(one)?;
-        let id = buffer_in(held)?;
+        let held_value = self.at(one)?;
+        let id = buffer_in(held_value)?;
         Some((one.borrow, id))
     }
 
@@ -233,10 +233,10 @@ fn copied(alloc: Global, cells: &[Cell], index: usize) -> Result<Answered, Memor
 }
 
 /// What is given, or the abort where nothing is.
-fn given_or(held: Option<Cell>, why: AbortKind) -> Answered
-    ensures { result ≡ given_or held why }
+fn given_or(held_value: Option<Cell>, why: AbortKind) -> Answered
+    ensures { result ≡ given_or held_value why }
 {
-    match held {
+    match held_value {
         Some(cell) => Answered::Gives(cell),
         None => Answered::Aborts(why),
     }

@@ -9,6 +9,7 @@ pub mod births;
 pub mod borrows;
 pub mod boxes;
 pub mod buffers;
+pub mod cases;
 pub mod laws;
 pub mod places;
 pub mod slots;
@@ -16,4 +17,5 @@ pub mod terminals;
 pub mod worlds;
 
 pub use answers::Answered;
+pub use cases::{Taken, Told};
 pub use worlds::{Held, World};

@@ -4,13 +4,13 @@ ghost use Rattle.std.specs.Prelude.{◌≡◌, ◌<◌, [], nat_lt, IsNone, IsFa
 ghost use Rattle.std.specs.Option.{option_map, option_copied};
 ghost use Rattle.au_effects.specs.Values.{content_of};
 ghost use Rattle.au_effects.specs.Places as effect;
-ghost use Rattle.au_low.specs.Instructions.{place_along};
+ghost use Rattle.au_effects.specs.References.{place_along};
 ghost use Rattle.au_cells.specs.Cells.{low, base_of, place_of};
 ghost use Rattle.au_stores.specs.Stores.{world_of, top_frame, slot_place, slot_count, put_through, came_out};
 ghost use Rattle.au_stores.specs.Stores.{done_in};
 
 use crate::births::{put_held, take_content};
-use crate::slots::held;
+use crate::slots::held_value;
 use crate::worlds::{Held, World};
 use au_base::{Memory, Sequence};
 use au_cells::forms::reference_in;
@@ -31,7 +31,7 @@ impl World {
             return None;
         }
         match self.slots.below(depth - 1 - frame) {
-            Some(slots) => held(slots, slot),
+            Some(slots) => held_value(slots, slot),
             None => None,
         }
     }
@@ -144,18 +144,19 @@ impl World {
     }
 
     /// Puts a value into a slot of the frame of a number, or empties it.
-    fn set_name(&mut self, frame: usize, slot: u32, held: Option<Cell>) -> Option<Cell>
+    fn set_name(&mut self, frame: usize, slot: u32, held_value: Option<Cell>) -> Option<Cell>
         requires { slot < slot_count frame (world_of self.old) }
         ensures world { world_of self.new
-            ≡ effect.name_set frame slot (option_map low held) (world_of self.old) }
+            ≡ effect.name_set frame slot (option_map low held_value) (world_of self.old) }
         ensures old { option_map low result ≡ effect.name_at frame slot (world_of self.old) }
         ensures frame { top_frame self.new ≡ top_frame self.old }
     {
         let depth = self.slots.depth();
         if frame == depth {
-            return self.set_slot(slot, held);
+            return self.set_slot(slot, held_value);
         }
-        self.slots.put_below(depth - 1 - frame, slot as usize, held)
+        self.slots
+            .put_below(depth - 1 - frame, slot as usize, held_value)
     }
 
     fn exchange_in_slot(&mut self, frame: usize, slot: u32, path: &[u32], new: Cell) -> Option<Cell>

@@ -9,8 +9,9 @@ ghost use Rattle.au_effects.specs.Places.{at, name_at, name_set};
 ghost use Rattle.au_low.specs.Machines.{new_slots};
 ghost use Rattle.au_cells.specs.Cells.{low, lows};
 ghost use Rattle.au_stores.specs.Stores.{world_of, slots_of, top_frame, slot_place, slot_count, with_frame};
-ghost use Rattle.au_stores.specs.Stores.{without_frames, given_slots, filled, done_in};
+ghost use Rattle.au_stores.specs.Stores.{without_frames, given_slots, filled, done_in, taken};
 
+use crate::cases::Taken;
 use crate::worlds::World;
 use au_base::Memory;
 use au_cells::paths::part;
@@ -25,12 +26,12 @@ fn item(slots: &[Option<Cell>], slot: usize) -> Option<&Option<Cell>>
 
 /// What a slot of some frame's slots holds.
 #[inline(always)]
-pub(crate) fn held(slots: &[Option<Cell>], slot: u32) -> Option<&Cell>
+pub(crate) fn held_value(slots: &[Option<Cell>], slot: u32) -> Option<&Cell>
     ensures { option_map low (option_copied result)
         ≡ along (slice_get (slots_of slots.now) slot) (λ value. value) }
 {
     match item(slots, slot as usize) {
-        Some(held) => held.as_ref(),
+        Some(held_value) => held_value.as_ref(),
         None => None,
     }
 }
@@ -73,20 +74,20 @@ impl World {
         ensures { option_map low (option_copied result)
             ≡ name_at (top_frame self.now) slot (world_of self.now) }
     {
-        held(self.slots.top(), slot)
+        held_value(self.slots.top(), slot)
     }
 
     /// Puts a value into a slot of the running frame, or empties it.
     #[inline(always)]
-    pub fn set_slot(&mut self, slot: u32, held: Option<Cell>) -> Option<Cell>
+    pub fn set_slot(&mut self, slot: u32, held_value: Option<Cell>) -> Option<Cell>
         requires { slot < length self.old.slots.0 }
         ensures world { world_of self.new
-            ≡ name_set (top_frame self.old) slot (option_map low held) (world_of self.old) }
+            ≡ name_set (top_frame self.old) slot (option_map low held_value) (world_of self.old) }
         ensures old { option_map low result ≡ name_at (top_frame self.old) slot (world_of self.old) }
         ensures frame { top_frame self.new ≡ top_frame self.old }
         ensures slots { length self.new.slots.0 ≡ length self.old.slots.0 }
     {
-        self.slots.put(slot as usize, held)
+        self.slots.put(slot as usize, held_value)
     }
 
     /// The part of a slot of the running frame.
@@ -121,28 +122,22 @@ impl World {
         true
     }
 
-    /// Takes a value apart whose birth, if it has one, is consumed by it: its fields go to slots of the
-    /// running frame, from one on. Where one of the slots isn't there, nothing changes.
+    /// Puts the fields that are taken of a value into slots of the running frame, from one on, and tells how
+    /// they are taken. Where one of the slots isn't there, nothing changes.
     ///
     /// # Errors
     ///
     /// `Memory` when memory runs out.
-    pub fn take_apart(
-        &mut self,
-        slot: u32,
-        birth: Option<u64>,
-        fields: Vec<Cell>,
-    ) -> Result<bool, Memory>
+    pub fn take_apart(&mut self, slot: u32, how: Taken, fields: Vec<Cell>) -> Result<bool, Memory>
         ensures world { IfOk result (λ done. done_in done self.new
-            ≡ filled (top_frame self.old) slot (lows fields.items)
-            (effect.spends birth (world_of self.old))) }
+            ≡ filled (top_frame self.old) slot (lows fields.items) (taken how (world_of self.old))) }
         ensures kept { IfOk result (λ done. IsFalse done → world_of self.new ≡ world_of self.old) }
         ensures frame { OnOk result (top_frame self.new ≡ top_frame self.old) }
     {
         if !self.fill_slots(slot, fields) {
             return Ok(false);
         }
-        self.spend(birth)?;
+        self.tell_taken(how)?;
         Ok(true)
     }
 

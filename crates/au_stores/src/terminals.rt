@@ -138,8 +138,8 @@ impl World {
         ensures { result ≡ reached_by call.terminal_in (low reference.now) (world_of self.now) }
     {
         let one = reference_in(reference)?;
-        let held = self.at(one)?;
-        let id = terminal_in(held)?;
+        let held_value = self.at(one)?;
+        let id = terminal_in(held_value)?;
         Some((one.borrow, id))
     }
 
@@ -148,8 +148,8 @@ impl World {
         ensures { result ≡ reached_by call.root_in (low reference.now) (world_of self.now) }
     {
         let one = reference_in(reference)?;
-        let held = self.at(one)?;
-        let id = root_in(held)?;
+        let held_value = self.at(one)?;
+        let id = root_in(held_value)?;
         Some((one.borrow, id))
     }
 }

@@ -129,12 +129,18 @@ impl World {
     /// # Errors
     ///
     /// `Memory` when memory runs out.
-    pub fn bear(&mut self, alloc: Global, of: u32, home: &[u8], held: Held) -> Result<u64, Memory>
+    pub fn bear(
+        &mut self,
+        alloc: Global,
+        of: u32,
+        home: &[u8],
+        birth_held: Held,
+    ) -> Result<u64, Memory>
         requires some { 0 < length home.now }
         requires most { length home.now ≤ most_name_bytes }
         ensures id { IfOk result (λ id. id ≡ length self.old.births.items) }
         ensures world { OnOk result
-            (world_of self.new ≡ effect.bears of home.now (held_of held) (world_of self.old)) }
+            (world_of self.new ≡ effect.bears of home.now (held_of birth_held) (world_of self.old)) }
         ensures frame { OnOk result (top_frame self.new ≡ top_frame self.old) }
     {
         let id = self.births.len() as u64;
@@ -142,7 +148,7 @@ impl World {
             let module = Name::copy_of(alloc, home)?;
             self.events.push(Event::Born { id, of, module })?;
         }
-        self.births.push(held)?;
+        self.births.push(birth_held)?;
         Ok(id)
     }
 }

@@ -487,7 +487,7 @@ run_halts program h = elim h [
   | inr p ↦ let e : outcome.Runs program ≡ outcome.Passes p.0 = p.1 in cc
 ]
 
--- accepted files in which all forms are built, of a run, come to nothing for which something is due
+-- accepted files that name nothing that isn't built, of a run, come to nothing for which something is due
 none_due : (names : List (List ℕ)) (reads : List ReadFile) (arisen : Outcome) (P : Due → Type 0)
     → unbuilt_of (program_modules reads) ≡ None → RunComes reads arisen → IsSomeAnd (due_of names arisen) P
     → ⊥

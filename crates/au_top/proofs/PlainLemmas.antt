@@ -26,7 +26,7 @@ use Rattle.au_unbuilt.specs.Unbuilt.{unbuilt_of}
 abbrev IsPlain : List ModuleParts → Type 0
 IsPlain program = (owner name : Bytes) → ClosesPlainly program owner name
 
--- by the calls of accepted programs without a form that isn't built, and by what calls lead to
+-- by the calls of accepted programs that name nothing that isn't built, and by what calls lead to
 module _
     (calls : (files : Files) (names all : List (List ℕ)) (reads : List ReadFile) → AreAcceptedAs files names all reads
     → unbuilt_of (program_modules reads) ≡ None → (noted : List NotedParts) → IsDerived (program_modules reads) noted

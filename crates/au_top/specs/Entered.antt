@@ -18,7 +18,8 @@ abbrev pub HasEntry : Option Entry → List ModuleParts → List NotedParts → 
 HasEntry named program noted =
     HasNoEntry program noted (entry_for named program).«module» (entry_for named program).function → ⊥
 
--- The files of a task are accepted, no form in their program isn't built yet, and this is the run of it.
+-- The files of a task are accepted, their program names nothing that isn't built yet, and this is the run of
+-- it.
 pub record IsToRun (files : Files) (task : Task) (run : Run) : Type 0 where
   -- the bytes of the files
   pub all : List (List ℕ)
@@ -26,7 +27,7 @@ pub record IsToRun (files : Files) (task : Task) (run : Run) : Type 0 where
   pub reads : List ReadFile
   -- By these the files are accepted.
   pub accepted : AreAcceptedAs files task.files all reads
-  -- No form in the program isn't built yet.
+  -- The program names nothing that isn't built yet.
   pub built : unbuilt_of (program_modules reads) ≡ None
   -- It is the run of this program that the task asks for.
   pub is_run : run ≡ run_of task (program_modules reads)
@@ -39,7 +40,7 @@ pub record CanRun (files : Files) (task : Task) : Type 0 where
   pub reads : List ReadFile
   -- By these the files are accepted: so the rules of typing derive their program, with some notes.
   pub accepted : AreAcceptedAs files task.files all reads
-  -- No form in the program isn't built yet.
+  -- The program names nothing that isn't built yet.
   pub built : unbuilt_of (program_modules reads) ≡ None
   -- The program has its entry.
   pub entry : HasEntry task.entry (program_modules reads) accepted.noted

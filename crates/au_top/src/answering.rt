@@ -57,7 +57,7 @@ fn put_lives<O: Sink>(alloc: Global, lives: &Lives, out: &mut O) -> Result<Statu
 
 /// Does what is due for an outcome: a line is written on `err`, or that the program is accepted or the lives
 /// of its variables on `out`, or the program is run. What a program to run closes to must call no shipped
-/// function of references, boxes, buffers or the terminal.
+/// function of boxes, buffers or the terminal.
 pub fn answer<I: Source, O: Sink, E: Sink>(
     alloc: Global,
     asked: &Asked,

@@ -22,7 +22,7 @@ use au_running::{Ran, run_program};
 use std::alloc::Global;
 
 /// Runs a program from its entry, and writes the line that is due behind the run, if one is, on `err`. What
-/// it closes to must call no shipped function of references, boxes, buffers or the terminal.
+/// it closes to must call no shipped function of boxes, buffers or the terminal.
 ///
 /// # Errors
 ///

@@ -20,7 +20,7 @@ use Rattle.au_syntax.specs.Views.{expression, placed}
 use Rattle.au_syntax.proofs.ExpressionLemmas as says
 use Rattle.au_modules.specs.Programs.{ModuleParts}
 use Rattle.au_names.specs.declared.part_names.PartNames.{PartNames}
-use Rattle.au_unbuilt.specs.First.{first_from, sooner}
+use Rattle.au_unbuilt.specs.First.{first_from}
 use Rattle.au_unbuilt.specs.Names.{unbuilt_call, unbuilt_type}
 use Rattle.au_unbuilt.specs.Places.{in_arguments, in_expression, in_expressions, place_if}
 use Rattle.au_unbuilt.specs.Said.{arguments_told, expression_told, expressions_told, type_told}
@@ -93,17 +93,17 @@ module _ (program : List ModuleParts) (names : PartNames) where
   path_first best s n fields = by_says best _ _ (says.path_says parsed s n fields)
 
   pub arrow_first : (best : Option Pos) (s : TheSite) (n : TheIdent) (fields : Vec TheIdent Global)
-      → first_from best (expression_told program names (code.Arrow s n fields)) ≡ sooner best s.at
+      → first_from best (expression_told program names (code.Arrow s n fields)) ≡ best
   unfolding in_expression first_from
   arrow_first best s n fields = by_says best _ _ (says.arrow_says parsed s n fields)
 
   pub borrow_first : (best : Option Pos) (s : TheSite) (m : BorrowMode) (n : TheIdent)
-      → first_from best (expression_told program names (code.Borrow s m n)) ≡ sooner best s.at
+      → first_from best (expression_told program names (code.Borrow s m n)) ≡ best
   unfolding in_expression first_from
   borrow_first best s m n = by_says best _ _ (says.borrow_says parsed s m n)
 
   pub borrow_part_first : (best : Option Pos) (s : TheSite) (n : TheIdent) (fields : Vec TheIdent Global)
-      → first_from best (expression_told program names (code.BorrowPart s n fields)) ≡ sooner best s.at
+      → first_from best (expression_told program names (code.BorrowPart s n fields)) ≡ best
   unfolding in_expression first_from
   borrow_part_first best s n fields = by_says best _ _ (says.borrow_part_says parsed s n fields)
 
@@ -134,8 +134,8 @@ module _ (program : List ModuleParts) (names : PartNames) where
 
   pub dereference_first : (best : Option Pos) (s : TheSite) (e : TheBox)
       → first_from best (expression_told program names (code.Dereference s e))
-      ≡ first_from (sooner best s.at) (expression_told program names e.value)
-  unfolding in_expression first_from
+      ≡ first_from best (expression_told program names e.value)
+  unfolding in_expression
   dereference_first best s e = by_says best _ _ (says.dereference_says parsed s e)
 
   pub not_first : (best : Option Pos) (s : TheSite) (e : TheBox)

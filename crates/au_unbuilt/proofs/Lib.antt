@@ -4,6 +4,6 @@ pub mod TypeLemmas
 pub mod ExpressionLemmas
 pub mod StatementLemmas
 pub mod DeclarationLemmas
-pub mod FileLemmas
+pub mod NameLemmas
 pub mod ProgramLemmas
 pub mod OrderLemmas

@@ -24,12 +24,12 @@ use Rattle.au_syntax.specs.Views.{statement}
 use Rattle.au_syntax.proofs.StatementLemmas as says
 use Rattle.au_modules.specs.Programs.{ModuleParts}
 use Rattle.au_names.specs.declared.part_names.PartNames.{PartNames}
-use Rattle.au_unbuilt.specs.First.{first_from, sooner}
+use Rattle.au_unbuilt.specs.First.{first_from}
 use Rattle.au_unbuilt.specs.Names.{unbuilt_call, unbuilt_type}
 use Rattle.au_unbuilt.specs.Places.{in_arms, in_block, in_branches, in_statement}
 use Rattle.au_unbuilt.specs.Said.{arms_told, binds_told, block_told, branches_told, expression_told}
 use Rattle.au_unbuilt.specs.Said.{statement_told, statements_told, type_told}
-use Rattle.au_unbuilt.proofs.FirstLemmas.{first_more, first_next}
+use Rattle.au_unbuilt.proofs.FirstLemmas.{first_more}
 
 abbrev TheIdent : Type 0
 TheIdent = Ident Parsed (List ℕ) (Unit {0}) (Unit {0})
@@ -101,8 +101,8 @@ module _ (program : List ModuleParts) (names : PartNames) where
   pub assign_through_first : (best : Option Pos) (at : Pos) (n : TheIdent) (fields : Vec TheIdent Global)
       (e : TheBox)
       → first_from best (statement_told program names (code.AssignThrough at n fields e))
-      ≡ first_from (sooner best at) (expression_told program names e.value)
-  unfolding in_statement first_from
+      ≡ first_from best (expression_told program names e.value)
+  unfolding in_statement
   assign_through_first best at n fields e = by_says best _ _ (says.assign_through_says parsed at n fields e)
 
   pub if_first : (best : Option Pos) (at : Pos) (bs : Vec TheBranch Global)
@@ -154,19 +154,18 @@ module _ (program : List ModuleParts) (names : PartNames) where
   pub borrow_first : (best : Option Pos) (at : Pos) (access : Access) (ns : TheNames) (b : TheBlock)
       (stop : Pos)
       → first_from best (statement_told program names (code.Borrow at access ns b stop))
-      ≡ first_from (sooner best at) (block_told program names b)
-  unfolding in_statement first_from
+      ≡ first_from best (block_told program names b)
+  unfolding in_statement
   borrow_first best at access ns b stop = by_says best _ _ (says.borrow_says parsed at access ns b stop)
 
   pub borrow_typed_first : (best : Option Pos) (at : Pos) (r : TheIdent) (t : TypeText) (mode : BorrowMode)
       (x : TheIdent) (b : TheBlock) (stop : Pos)
       → first_from best (statement_told program names (code.BorrowTyped at r t mode x b stop))
-      ≡ first_from (first_from (sooner best at) (type_told program names t)) (block_told program names b)
+      ≡ first_from (first_from best (type_told program names t)) (block_told program names b)
   unfolding in_statement
   borrow_typed_first best at r t mode x b stop =
       by_says best _ _ (says.borrow_typed_says parsed at r t mode x b stop)
-      ∙ first_next best at (type_told program names t ++ block_told program names b)
-      ∙ first_more (sooner best at) (type_told program names t) (block_told program names b)
+      ∙ first_more best (type_told program names t) (block_told program names b)
 
   pub call_first : (best : Option Pos) (at : Pos) (e : TheBox)
       → first_from best (statement_told program names (code.Call at e))

@@ -11,11 +11,11 @@ use Rattle.au_syntax.specs.Views.{type_name, written}
 use Rattle.au_syntax.proofs.TypeLemmas.{named_written, reference_written}
 use Rattle.au_modules.specs.Programs.{ModuleParts}
 use Rattle.au_names.specs.declared.part_names.PartNames.{PartNames}
-use Rattle.au_unbuilt.specs.First.{first_from, sooner}
+use Rattle.au_unbuilt.specs.First.{first_from}
 use Rattle.au_unbuilt.specs.Names.{unbuilt_type}
 use Rattle.au_unbuilt.specs.Places.{in_type, in_types, place_if}
 use Rattle.au_unbuilt.specs.Said.{type_told, types_told}
-use Rattle.au_unbuilt.proofs.FirstLemmas.{first_more, first_next}
+use Rattle.au_unbuilt.proofs.FirstLemmas.{first_more}
 
 module _ (program : List ModuleParts) (names : PartNames) where
   -- what a type says decides
@@ -37,11 +37,9 @@ module _ (program : List ModuleParts) (names : PartNames) where
   pub reference_first : (best : Option Pos) (at : Pos) (access : Access) (target : Box TypeText Global)
       (region : TypeName)
       → first_from best (type_told program names (Reference at access target region))
-      ≡ first_from (sooner best at) (type_told program names target.value)
+      ≡ first_from best (type_told program names target.value)
   unfolding in_type
-  reference_first best at access target region =
-      by_says best _ _ (reference_written at access target region)
-      ∙ first_next best at (type_told program names target.value)
+  reference_first best at access target region = by_says best _ _ (reference_written at access target region)
 
   pub no_types_told : types_told program names [] ≡ []
   unfolding in_types

@@ -1,7 +1,5 @@
--- Where trees hold what isn't run yet, in the order of the text: a borrow, a dereference, a path or an
--- assignment through a reference, the written type of a reference, and names of types and of what is called
--- that mean what isn't run. A tree keeps no place of `->`: that of a path or a statement with one is the
--- place of its first token.
+-- Where trees hold what isn't run yet, in the order of the text: names of types and of what is called that
+-- mean what isn't run.
 use Rattle.std.specs.Prelude.{Bool, if◌then◌else◌, List, [], ◌∷◌, ◌++◌}
 use Rattle.std.specs.List.{flat_map}
 use Rattle.au_base.specs.declared.places.Pos.{Pos}
@@ -31,7 +29,7 @@ module _ (unbuilt_type : Bytes → Bool) where
     -- in a written type: the name of its region is no type's
     pub in_type : WrittenType → List Pos
     in_type (named name args) = place_if unbuilt_type name ++ in_types args
-    in_type (reference at access target region) = at ∷ in_type target
+    in_type (reference at access target region) = in_type target
 
     -- in the arguments of a type
     pub in_types : WrittenTypes → List Pos
@@ -65,13 +63,13 @@ module _ (unbuilt_type unbuilt_call : Bytes → Bool) where
     in_expression (truth node value) = []
     in_expression (nil node) = []
     in_expression (path node name fields) = []
-    in_expression (arrow node name fields) = node.at ∷ []
+    in_expression (arrow node name fields) = []
     in_expression (call node name args note) = place_if unbuilt_call name ++ in_expressions args
     in_expression (named_call node name args note) = place_if unbuilt_call name ++ in_arguments args
     in_expression (parenthesized node e) = in_expression e
-    in_expression (dereference node e) = node.at ∷ in_expression e
-    in_expression (borrow node mode name) = node.at ∷ []
-    in_expression (borrow_part node name fields) = node.at ∷ []
+    in_expression (dereference node e) = in_expression e
+    in_expression (borrow node mode name) = []
+    in_expression (borrow_part node name fields) = []
     in_expression (binary node operator a b) = in_expression a ++ in_expression b
     in_expression (negation node e) = in_expression e
     in_expression (typed node e t) = in_expression e ++ in_type unbuilt_type t
@@ -94,14 +92,14 @@ module _ (unbuilt_type unbuilt_call : Bytes → Bool) where
     in_statement (declare at binding name t e) = in_type unbuilt_type t ++ in_expression e
     in_statement (destructure at binds e) = flat_map (in_bound unbuilt_type) binds ++ in_expression e
     in_statement (assign at name fields e) = in_expression e
-    in_statement (assign_through at name fields e) = at ∷ in_expression e
+    in_statement (assign_through at name fields e) = in_expression e
     in_statement (conditional at tests) = in_branches tests
     in_statement (conditional_else at tests block) = in_branches tests ++ in_block block
     in_statement (case_of at e rest) = in_expression e ++ in_arms rest
     in_statement (while_loop at e block) = in_expression e ++ in_block block
     in_statement (for_loop at name a z block) = in_expression a ++ in_expression z ++ in_block block
-    in_statement (borrow_in at access x r region block stop) = at ∷ in_block block
-    in_statement (borrow_typed at r t mode x block stop) = at ∷ (in_type unbuilt_type t ++ in_block block)
+    in_statement (borrow_in at access x r region block stop) = in_block block
+    in_statement (borrow_typed at r t mode x block stop) = in_type unbuilt_type t ++ in_block block
     in_statement (discard at e) = in_expression e
     in_statement (return_of at e) = in_expression e
 
@@ -115,7 +113,7 @@ module _ (unbuilt_type unbuilt_call : Bytes → Bool) where
     in_branches no_branches = []
     in_branches (branches e block rest) = (in_expression e ++ in_block block) ++ in_branches rest
 
-    -- In the arms of a case. The name behind `when` isn't looked at: a value of its type can't be had.
+    -- in the arms of a case: the name behind `when` is no use of a type or of a function that isn't run
     pub in_arms : PlainArms → List Pos
     in_arms no_arms = []
     in_arms (arms at name binds block rest) =

@@ -6,7 +6,6 @@ ghost use Rattle.au_unbuilt.specs.First.{first_from};
 ghost use Rattle.au_unbuilt.specs.Said as told;
 
 use crate::expressions::in_expression;
-use crate::first::sooner;
 use crate::types::{in_binds, in_type};
 use au_base::Pos;
 use au_imports::Resolved;
@@ -34,9 +33,7 @@ fn in_statement(
             in_expression(program, names, best, value)
         }
         Stmt::Assign(_, _, _, value) => in_expression(program, names, best, value),
-        Stmt::AssignThrough(at, _, _, value) => {
-            in_expression(program, names, sooner(best, *at), value)
-        }
+        Stmt::AssignThrough(_, _, _, value) => in_expression(program, names, best, value),
         Stmt::If(_, branches) => in_branches(program, names, best, branches),
         Stmt::IfElse(_, branches, last) => {
             let best = in_branches(program, names, best, branches);
@@ -55,9 +52,9 @@ fn in_statement(
             let best = in_expression(program, names, best, to);
             in_block(program, names, best, body)
         }
-        Stmt::Borrow(at, _, _, body, _) => in_block(program, names, sooner(best, *at), body),
-        Stmt::BorrowTyped(at, _, of_type, _, _, body, _) => {
-            let best = in_type(program, names, sooner(best, *at), of_type);
+        Stmt::Borrow(_, _, _, body, _) => in_block(program, names, best, body),
+        Stmt::BorrowTyped(_, _, of_type, _, _, body, _) => {
+            let best = in_type(program, names, best, of_type);
             in_block(program, names, best, body)
         }
         Stmt::Call(_, call) => in_expression(program, names, best, call),

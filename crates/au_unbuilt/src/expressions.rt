@@ -5,7 +5,6 @@ ghost use Rattle.au_modules.specs.Slots as slots;
 ghost use Rattle.au_unbuilt.specs.First.{first_from};
 ghost use Rattle.au_unbuilt.specs.Said as told;
 
-use crate::first::sooner;
 use crate::names::in_call_name;
 use crate::types::in_type;
 use au_base::Pos;
@@ -30,7 +29,7 @@ pub fn in_expression(
         Expr::Bool(_, _) => best,
         Expr::Nil(_) => best,
         Expr::Path(_, _, _) => best,
-        Expr::Arrow(site, _, _) => sooner(best, site.at),
+        Expr::Arrow(_, _, _) => best,
         Expr::Call(_, name, values, _) => {
             let best = in_call_name(program, names, best, name);
             in_expressions(program, names, best, values)
@@ -40,11 +39,9 @@ pub fn in_expression(
             in_arguments(program, names, best, arguments)
         }
         Expr::Parenthesized(_, inner) => in_expression(program, names, best, inner),
-        Expr::Dereference(site, inner) => {
-            in_expression(program, names, sooner(best, site.at), inner)
-        }
-        Expr::Borrow(site, _, _) => sooner(best, site.at),
-        Expr::BorrowPart(site, _, _) => sooner(best, site.at),
+        Expr::Dereference(_, inner) => in_expression(program, names, best, inner),
+        Expr::Borrow(_, _, _) => best,
+        Expr::BorrowPart(_, _, _) => best,
         Expr::Binary(_, _, left, right) => {
             let best = in_expression(program, names, best, left);
             in_expression(program, names, best, right)

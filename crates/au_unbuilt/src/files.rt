@@ -1,11 +1,10 @@
-//! The files of a program's modules, and which of them are shipped.
+//! The files of a program's modules.
 
 ghost use Rattle.std.specs.Prelude.{◌≡◌, ◌<◌, length, map, slice_get};
 ghost use Rattle.au_modules.specs.Programs.{entry};
 ghost use Rattle.au_modules.specs.Programs as programs;
 ghost use Rattle.au_modules.specs.Slots as slots;
 ghost use Rattle.au_unbuilt.specs.Files as spec;
-ghost use Rattle.au_unbuilt.specs.Names as names;
 
 use au_modules::Modules;
 use au_syntax::{FileTree, Part};
@@ -40,19 +39,5 @@ pub fn part_file(modules: &Modules, place: usize, part: Part) -> Option<&FileTre
     match part {
         Part::Interface => file_at(modules, modules.slots[place].interface),
         Part::Body => file_at(modules, modules.slots[place].body),
-    }
-}
-
-/// Whether the module at a place is there and is shipped.
-pub fn is_shipped_at(modules: &Modules, place: u16) -> bool
-    ensures { result ≡ names.is_shipped_at (slots.modules modules.now) place }
-{
-    if (place as usize) < modules.len() {
-        match part_file(modules, place as usize, Part::Interface) {
-            None => false,
-            Some(file) => is_shipped(file),
-        }
-    } else {
-        false
     }
 }

@@ -1,5 +1,5 @@
-//! The first place of a program that holds what isn't run yet: a form of source that `run` refuses after the
-//! program was accepted.
+//! The first place of a program that holds what isn't run yet: a name of a shipped type or function that
+//! `run` refuses after the program was accepted.
 #![tactic(auto)]
 
 mod blocks;

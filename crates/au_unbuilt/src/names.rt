@@ -1,6 +1,6 @@
 //! Names that mean what isn't run yet.
 
-ghost use Rattle.std.specs.Prelude.{◌≡◌, option_copied};
+ghost use Rattle.std.specs.Prelude.{◌≡◌};
 ghost use Rattle.std.specs.Str.{bytes_eq};
 ghost use Rattle.au_modules.specs.Slots as slots;
 ghost use Rattle.au_unbuilt.specs.First as first;
@@ -10,41 +10,38 @@ ghost use Rattle.au_syntax.specs.Plain.{plain_name};
 ghost use Rattle.au_syntax.specs.Views.{placed, type_name};
 ghost use Rattle.au_syntax.specs.contracts.parsed.ParsedPhase.TheImpl.{ghosts as parsed};
 
-use crate::files::is_shipped_at;
 use crate::first::sooner;
 use au_base::{Name, Pos};
 use au_imports::Resolved;
+use au_modules::Modules;
 use au_names::PartNames;
-use au_syntax::{Ident, Parsed, TypeName, Universe};
-use au_types::{DeclAt, Head};
+use au_syntax::{Ident, Parsed, TypeName};
 
-/// Whether a universe is that of free types.
-fn is_free(universe: Universe) -> bool
-    ensures { result ≡ spec.is_free universe }
+fn is_name(bytes: &[u8], name: &[u8]) -> bool
+    ensures { result ≡ bytes_eq bytes.now name.now }
 {
-    match universe {
-        Universe::Free => true,
-        Universe::Linear => false,
-        Universe::AnyType => false,
-        Universe::Region => false,
-    }
+    bytes == name
 }
 
-/// Whether a type has no type parameters and is declared Free, or is none.
-fn is_plain(head: Option<&Head>) -> bool
-    ensures { result ≡ spec.is_plain (option_copied head.entry) }
+/// Whether a name is that of a module that isn't run.
+#[tactic(auto, unfolding(crate::specs::Names::is_unbuilt))]
+fn is_unbuilt(name: &[u8]) -> bool
+    ensures { result ≡ spec.is_unbuilt name.now }
 {
-    match head {
-        None => true,
-        Some(head) => head.params.len() == 0 && is_free(head.universe),
-    }
+    is_name(name, b"Standard.Box")
+        || is_name(name, b"Standard.Buffer")
+        || is_name(name, b"Standard.IO.Terminal")
 }
 
-/// Whether a declared type or a class is one of those that aren't run.
-fn is_unbuilt_at(program: &Resolved, at: DeclAt) -> bool
-    ensures { result ≡ spec.is_unbuilt_at (slots.modules program.now) at }
+/// Whether the module at a place is there and isn't run.
+fn is_unbuilt_at(modules: &Modules, place: u16) -> bool
+    ensures { result ≡ spec.is_unbuilt_at (slots.modules modules.now) place }
 {
-    is_shipped_at(program.modules(), at.module) && !is_plain(program.heads_ref().row(at))
+    if (place as usize) < modules.len() {
+        is_unbuilt(modules.name(place as usize).as_bytes())
+    } else {
+        false
+    }
 }
 
 /// Whether a name means a type that isn't run.
@@ -54,42 +51,18 @@ fn unbuilt_type(program: &Resolved, names: &PartNames, name: &Name) -> bool
 {
     match names.types.get(name.as_bytes()) {
         None => false,
-        Some(at) => is_unbuilt_at(program, *at),
+        Some(at) => is_unbuilt_at(program.modules(), at.module),
     }
 }
 
-fn is_name(bytes: &[u8], name: &[u8]) -> bool
-    ensures { result ≡ bytes_eq bytes.now name.now }
-{
-    bytes == name
-}
-
-/// Whether a name is one of the shipped functions, methods and cases that are run.
-#[tactic(auto, unfolding(crate::specs::Names::is_built))]
-fn is_built(name: &[u8]) -> bool
-    ensures { result ≡ spec.is_built name.now }
-{
-    is_name(name, b"print")
-        || is_name(name, b"printLn")
-        || is_name(name, b"abort")
-        || is_name(name, b"spanLength")
-        || is_name(name, b"modularAdd")
-        || is_name(name, b"modularSubtract")
-        || is_name(name, b"modularMultiply")
-        || is_name(name, b"ExitSuccess")
-        || is_name(name, b"ExitFailure")
-}
-
-/// Whether a name of something that is called means one that isn't run.
+/// Whether a name of something that is called means what isn't run.
 #[tactic(auto, unfolding(crate::specs::Names::unbuilt_call))]
 fn unbuilt_call(program: &Resolved, names: &PartNames, name: &Name) -> bool
     ensures { result ≡ spec.unbuilt_call (slots.modules program.now) names.now name.now }
 {
     match names.callables.get(name.as_bytes()) {
         None => false,
-        Some(target) => {
-            is_shipped_at(program.modules(), target.at.module) && !is_built(target.name.as_bytes())
-        }
+        Some(target) => is_unbuilt_at(program.modules(), target.at.module),
     }
 }
 
@@ -110,7 +83,7 @@ pub fn in_type_name(
     }
 }
 
-/// The first of a place and that of a name of something that is called, if it means one that isn't run.
+/// The first of a place and that of a name of something that is called, if it means what isn't run.
 pub fn in_call_name(
     program: &Resolved,
     names: &PartNames,

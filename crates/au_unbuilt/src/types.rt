@@ -5,7 +5,6 @@ ghost use Rattle.au_modules.specs.Slots as slots;
 ghost use Rattle.au_unbuilt.specs.First.{first_from};
 ghost use Rattle.au_unbuilt.specs.Said as told;
 
-use crate::first::sooner;
 use crate::names::in_type_name;
 use au_base::Pos;
 use au_imports::Resolved;
@@ -27,9 +26,7 @@ pub fn in_type(
             let best = in_type_name(program, names, best, name);
             in_types(program, names, best, args)
         }
-        TypeText::Reference(at, _, target, _) => {
-            in_type(program, names, sooner(best, *at), target)
-        }
+        TypeText::Reference(_, _, target, _) => in_type(program, names, best, target),
     }
 }
 

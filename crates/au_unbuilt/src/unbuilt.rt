@@ -58,11 +58,9 @@ fn in_module(program: &Resolved, best: Option<Pos>, place: usize) -> Option<Pos>
 }
 
 /// The first place of an accepted program that holds what isn't run yet, if there is one: in a file of the
-/// user's a borrow, a borrow statement, a dereference, a path or an assignment with `->`, the written type of
-/// a reference, the name of a shipped type that has type parameters or isn't declared Free, or, in a call, a
-/// name that means something shipped other than `print`, `printLn`, `abort`, `spanLength`, `modularAdd`,
-/// `modularSubtract`, `modularMultiply`, `ExitSuccess` and `ExitFailure`. Files are in the order of their
-/// numbers. The place is that of the first token of the expression, statement or type, or of the name.
+/// user's, the name of a type in a written type or of what is called in a call, where it means one of
+/// `Standard.Box`, `Standard.Buffer` or `Standard.IO.Terminal`. Files are in the order of their numbers. The
+/// place is that of the name.
 pub fn first_unbuilt(program: &Resolved) -> Option<Pos>
     ensures { result ≡ spec.unbuilt_of (slots.modules program.now) }
 {

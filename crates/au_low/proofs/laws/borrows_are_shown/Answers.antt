@@ -11,11 +11,15 @@ returns c = record {
   open_tells = refl;
   again = refl;
   part = refl;
+  part_of_part = refl;
   bind_again = refl;
   read = refl;
   read_tells = refl;
   put = refl;
   deref = refl;
+  case_behind = refl;
+  case_behind_goes = refl;
+  case_behind_tells = refl;
   close = refl;
   close_more = refl;
 }

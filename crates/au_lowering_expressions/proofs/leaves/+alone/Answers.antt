@@ -3,7 +3,7 @@ use Rattle.std.proofs.lemmas.Bool.{eqb-false, eqb-true}
 use Rattle.std.proofs.lemmas.List.{length-map}
 use Rattle.au_closed_trees.specs.contracts.phase.ClosedTreesPhase.TheImpl.{ghosts as closed}
 use Rattle.au_closed_trees.specs.ClosedNotes.{Callee}
-use Rattle.au_lowering_expressions.specs.Parts.{alone}
+use Rattle.au_meaning.specs.Expressions.{alone}
 use Rattle.au_lowering_expressions.specs.Views.{scope_said}
 use Rattle.au_lowering_expressions.proofs.PartLemmas.{alone_part, alone_path}
 use Rattle.au_syntax.specs.Views.{expression, node, placed}

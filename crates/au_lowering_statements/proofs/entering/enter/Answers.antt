@@ -23,15 +23,15 @@ returns-in_ok-declare_noted-in-Let-clause-said g c =
     ∙ sym (ap (λ s. after see c.args.slot s scope) (ap (statement closed) p.is
     ∙ let_says closed p.field-0 p.field-1 p.name p.field-3 p.value))
 
-pub returns-in_ok-bind_fields-in-Destructure-clause-said :
-    goal.returns-in_ok-bind_fields-in-Destructure-clause-said
-returns-in_ok-bind_fields-in-Destructure-clause-said g c =
+pub returns-in_ok-bind_record-in-Destructure-clause-said :
+    goal.returns-in_ok-bind_record-in-Destructure-clause-said
+returns-in_ok-bind_record-in-Destructure-clause-said g c =
     let round = g.R.Lookup.round c.args.lookup.now in
     let scope = scope_said c.args.scope.now.items in
     let p = c.in-Destructure in
     let binds = map (bound closed) p.binds.items in
     let note = note_of (expression closed p.value.value) in
-    c.in_ok-bind_fields-in-Destructure.ensures.said
+    c.in_ok-bind_record-in-Destructure.ensures.said
     ∙ ap (λ (n : ClosedNote). with_fields (fields_in round n.of 0) c.args.slot binds scope)
     c.note_of-in-Destructure.ensures
     ∙ ap (λ e. with_fields (fields_in round (note_of (expression closed e)).of 0) c.args.slot binds scope)

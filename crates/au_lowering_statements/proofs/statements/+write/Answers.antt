@@ -9,7 +9,8 @@ use Rattle.au_typing.specs.Returns.{block_returns}
 use Rattle.au_low.specs.declared.instructions.Instr.TheVariants.{Close, ForStep, Jump, Look, Store}
 use Rattle.au_lowered.specs.Drafts.{◌>>◌, does, unless}
 use Rattle.au_lowered.specs.Expressions.{whole}
-use Rattle.au_lowered.specs.Slots.{after, fields_of_case, with_fields, with_reference}
+use Rattle.au_lowered.specs.Slots.{after, fields_of_case, with_fields}
+use Rattle.au_meaning.specs.Names.{with_reference}
 use Rattle.au_lowered.specs.Statements as spec
 use Rattle.au_lowering_expressions.specs.Views.{draft_said, drafts_said, scope_said}
 use Rattle.au_lowering_expressions.specs.Wrote.{wrote}

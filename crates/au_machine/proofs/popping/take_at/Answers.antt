@@ -10,6 +10,6 @@ use Rattle.au_machine.proofs.popping.take_at.Goals as goal
 pub returns-clause-left : goal.returns-clause-left
 returns-clause-left c =
     let left = c.args.left.now.items in
-    always c.replace-held.result _ (ap
-    (λ (held : Option Cell). slots_of (slice_set left c.args.index held)) c.replace-held.ensures.after
+    always c.replace-held_value.result _ (ap
+    (λ (held_value : Option Cell). slots_of (slice_set left c.args.index held_value)) c.replace-held_value.ensures.after
     ∙ map-set (option_map low) left c.args.index None)

@@ -13,21 +13,21 @@ use Rattle.au_stores.proofs.births.take_elements.Goals as goal
 pub returns-in-Elements-clause-births : goal.returns-in-Elements-clause-births
 returns-in-Elements-clause-births c =
     let births = c.args.births.now.items in
-    ap (λ (held : Held). map held_of (slice_set births c.args.index held)) c.replace-held.ensures.after
+    ap (λ (birth_held : Held). map held_of (slice_set births c.args.index birth_held)) c.replace-birth_held.ensures.after
     ∙ map-set held_of births c.args.index Nothing
 
 pub returns-in_default : goal.returns-in_default
 returns-in_default c =
     let births = c.args.births.now in
-    let held = c.replace-held.result in
+    let birth_held = c.replace-birth_held.result in
     let within : c.args.index < length births.items = omega
     (arith, births.ok.0, c.len.ensures, c.if-len-index.false) in
-    let is : held ≡ get_or births.items c.args.index held =
-    c.replace-held.ensures.value ∙ c.index_mut.ensures.value
-    ∙ ap (get_or births.items c.args.index) (sym c.replace-held.ensures.value) in
+    let is : birth_held ≡ get_or births.items c.args.index birth_held =
+    c.replace-birth_held.ensures.value ∙ c.index_mut.ensures.value
+    ∙ ap (get_or births.items c.args.index) (sym c.replace-birth_held.ensures.value) in
     record {
       elements = sym (ap (λ (found : Option (effect.Held _)). along found elements_in)
-          (held_there births.items c.args.index held within is)
-          ∙ not_elements held c.in_default.not-Elements);
-      births = ap (map held_of) (put_back births.items c.args.index held c.replace-held.new.dest is);
+          (held_there births.items c.args.index birth_held within is)
+          ∙ not_elements birth_held c.in_default.not-Elements);
+      births = ap (map held_of) (put_back births.items c.args.index birth_held c.replace-birth_held.new.dest is);
     }

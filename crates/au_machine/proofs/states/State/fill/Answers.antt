@@ -11,7 +11,7 @@ returns-clause-new c =
     world_changed s.function s.place s.operands s.borrows back s.world c.set_slot.new.self _
     c.set_slot.ensures.world c.set_slot.ensures.frame
     ∙ slot_set_is s.function s.place s.operands s.borrows back s.world c.args.slot
-    (option_map low c.args.held)
+    (option_map low c.args.held_value)
 
 pub returns-clause-old : goal.returns-clause-old
 returns-clause-old c =

@@ -1,7 +1,7 @@
 use Rattle.std.proofs.Common.{ap, ◌∙◌, reverse, Some, List, Option, ℕ}
 use Rattle.au_effects.specs.Values.{Place}
 use Rattle.au_low.specs.Machines.{Low}
-use Rattle.au_effects.specs.Calls.{reference_in}
+use Rattle.au_effects.specs.References.{reference_in}
 use Rattle.au_effects.specs.Parts.{along}
 use Rattle.au_cells.specs.Cells.{base_of}
 use Rattle.au_machine.proofs.states.State.reached_place.Goals as goal

@@ -9,7 +9,7 @@ use Rattle.au_stores.proofs.worlds.World.in_slot.Goals as goal
 pub returns : goal.returns
 returns c =
     let w = c.args.self.now in
-    c.held.ensures
+    c.held_value.ensures
     ∙ ap (λ (slots : List (Option Cell)). along (slice_get (slots_of slots) c.args.slot) (λ value. value))
     c.top.ensures
     ∙ name_in w (top_frame w) c.args.slot (Some (slots_of w.slots.0)) (top_slots w)

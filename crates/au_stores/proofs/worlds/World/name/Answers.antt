@@ -18,7 +18,7 @@ returns-in-Some c =
     (arith, c.depth-depth.ensures, c.if-depth-frame.false, c.if-frame-depth.false) in
     let found = ap (λ n. slice_get w.slots.1 (n - 1 - c.args.frame)) (sym c.depth-depth.ensures)
     ∙ sym c.in-Some.ensures in
-    c.held.ensures
+    c.held_value.ensures
     ∙ name_in w c.args.frame c.args.slot (Some (slots_of c.in-Some.slots.now))
     (below_slots w c.args.frame below ∙ ap (option_map slots_of) found)
 

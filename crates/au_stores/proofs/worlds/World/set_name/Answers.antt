@@ -36,9 +36,9 @@ returns-clause-world c =
     omega (arith, low, c.depth-depth.ensures, c.if-frame-depth.false) in
     ap (λ (piles : List (Option Cell) × List (List (Option Cell))). record (world_of w)
     { frames = frames_of piles })
-    (c.put_below.ensures.new ∙ ap (λ n. with_below w.slots (n - 1 - c.args.frame) c.args.slot c.args.held)
+    (c.put_below.ensures.new ∙ ap (λ n. with_below w.slots (n - 1 - c.args.frame) c.args.slot c.args.held_value)
     c.depth-depth.ensures)
-    ∙ name_put w c.args.frame c.args.slot c.args.held below
+    ∙ name_put w c.args.frame c.args.slot c.args.held_value below
 
 pub returns-clause-old : goal.returns-clause-old
 returns-clause-old c =

@@ -13,7 +13,7 @@ returns-clause-world c =
     let w = c.args.self.now in
     ap (λ (piles : List (Option Cell) × List (List (Option Cell))). record
     (world_of w) { frames = frames_of piles }) c.put.ensures.new
-    ∙ sym (top_set w c.args.slot c.args.held)
+    ∙ sym (top_set w c.args.slot c.args.held_value)
 
 pub returns-clause-old : goal.returns-clause-old
 returns-clause-old c =

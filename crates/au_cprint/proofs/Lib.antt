@@ -1,0 +1,5 @@
+pub mod NumberedLemmas
+pub mod RunLemmas
+pub mod WordLemmas
+pub mod TellingLemmas
+pub mod UniqueLemmas

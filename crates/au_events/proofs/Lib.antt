@@ -1,0 +1,4 @@
+pub mod CountLemmas
+pub mod BirthLemmas
+pub mod BorrowLemmas
+pub mod HomeLemmas

@@ -1,0 +1,12 @@
+pub mod SizeLemmas
+pub mod RemarkLemmas
+pub mod StandingLemmas
+pub mod GapLemmas
+pub mod StandLemmas
+pub mod PieceLemmas
+pub mod LayingLemmas
+pub mod AgainLemmas
+pub mod GlueLemmas
+pub mod WrittenLemmas
+pub mod ApartLemmas
+pub mod LawLemmas

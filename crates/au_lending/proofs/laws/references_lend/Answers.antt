@@ -1,0 +1,6 @@
+use Rattle.au_lending.proofs.RebornLemmas.{lends_again}
+use Rattle.au_lending.proofs.laws.references_lend.Goals as goal
+
+pub returns : goal.returns
+returns c = λ types clock scope act hold type under s m core frame x b z t y forms is typed scoped active before.
+    lends_again types forms clock scope act hold type under s m core frame x b z t y is typed scoped active before
