@@ -10,7 +10,7 @@ ghost use Rattle.au_runs.specs.Calls.{Rose};
 
 use crate::coding::{Uncoded, closed_code};
 use crate::ends::run_code;
-use crate::laws::lowered_programs_run;
+use crate::laws::{lowered_programs_run, lowered_programs_tell};
 use crate::ran::{Ran, Report};
 use au_base::{Entry, Memory, Sink, Source};
 use au_noting_programs::NotedProgram;
@@ -48,6 +48,7 @@ pub fn run_program<I: Source, O: Sink>(
     ensures quiet { OnErr result (life ≡ false → I.faults input.new ≡ I.faults input.old) }
 {
     lowered_programs_run();
+    lowered_programs_tell();
     match closed_code(alloc, program, entry) {
         Err(Uncoded::NoEntry) => Ok(unbegun(alloc, Ran::NoEntry)),
         Err(Uncoded::Limit(limit)) => Ok(unbegun(alloc, Ran::Limit(limit))),

@@ -8,6 +8,7 @@ use Rattle.au_noting_programs.specs.Faults.{IsDerived}
 use Rattle.au_runs.specs.Calls.{IsCut}
 use Rattle.au_running.specs.Came.{CodeEnds}
 use Rattle.au_running.specs.Ran.{ProgramEnds, ProgramIsCut, IsIdle}
+use Rattle.au_running.specs.declared.ran.Report.{Report}
 use Rattle.au_running.proofs.ShownLemmas.{came_so, cut_so}
 use Rattle.au_running.proofs.running.run_program.Goals as goal
 
@@ -21,14 +22,17 @@ returns-in-Ok-clause-ran g c =
     let out = g.O.Sink.written c.args.out.now in
     let out' = g.O.Sink.written c.run_code.new.out in
     let has = c.in-Ok.ensures in
-    IfOk-weaker c.run_code.result (λ ran. CodeEnds c.in-Ok.code ran c.args.steps told left out out')
-    (λ ran. (noted : List NotedParts) × IsDerived program noted
-    × ProgramEnds program noted owner name ran c.args.steps told left out out')
-    (λ ran came. (
+    IfOk-weaker c.run_code.result
+    (λ (report : Report). CodeEnds c.in-Ok.code c.args.life report.ran report.events.items c.args.steps told
+    left out out')
+    (λ (report : Report). (noted : List NotedParts) × IsDerived program noted
+    × ProgramEnds program noted owner name c.args.life report.ran report.events.items c.args.steps told left
+    out out')
+    (λ report came. (
       has.0,
       has.1,
-      came_so program has.0 owner name c.lowered_programs_run.ensures
-          (c.requires has.0 has.1) c.in-Ok.code has.2 ran
+      came_so program has.0 owner name c.lowered_programs_run.ensures c.lowered_programs_tell.ensures
+          (c.requires has.0 has.1) c.in-Ok.code has.2 c.args.life report.ran report.events.items
           c.args.steps told left out out' came,
     ))
     c.run_code.ensures.came
@@ -49,7 +53,7 @@ returns-in-Ok-clause-broken g c =
     (λ cut. inr (
       has.0,
       has.1,
-      cut_so program has.0 owner name c.lowered_programs_run.ensures
+      cut_so program has.0 owner name c.lowered_programs_run.ensures c.lowered_programs_tell.ensures
           (c.requires has.0 has.1) c.in-Ok.code has.2
           c.args.steps told out out' cut,
     ))
