@@ -1,8 +1,10 @@
 -- What is answered of a run of a program's code is so of the program.
-use Rattle.std.proofs.Common.{◌≡◌, ℕ, Bool, false, List, Option, Ok, subst}
+use Rattle.std.proofs.Common.{◌≡◌, ℕ, Bool, true, false, List, ◌++◌, Option, Ok, ap, subst, sym, ◌∙◌}
+use Rattle.std.proofs.Common.{true≢false}
 use Rattle.au_base.specs.declared.limits.Limit.{Limit}
 use Rattle.au_closed_programs.specs.Programs.{ClosedProgram, Closes}
 use Rattle.au_typing.specs.Trees.{NotedParts}
+use Rattle.au_effects.specs.Worlds.{Deed}
 use Rattle.au_low.specs.declared.code.Code.{Code}
 use Rattle.au_low.specs.declared.endings.Ending.{Ending}
 use Rattle.au_low.specs.declared.endings.Ending.TheVariants as ending
@@ -15,12 +17,15 @@ use Rattle.au_runs.specs.Calls.{IsCut}
 use Rattle.au_running.specs.Asked.{CallsArePlain}
 use Rattle.au_running.specs.Came.{CodeEnds, CodeCompletes}
 use Rattle.au_running.specs.Coded.{HasCode}
-use Rattle.au_running.specs.Ran.{CompletesAsMeant, IsLowered, ProgramEnds, ProgramIsCut}
+use Rattle.au_running.specs.Lines.{deeds_told}
+use Rattle.au_running.specs.Meant.{means}
+use Rattle.au_running.specs.Ran.{CompletesAsMeant, IsLowered, LivesAsMeant, ProgramEnds, ProgramIsCut}
 use Rattle.au_running.specs.Runs.{LoweredProgramsRun, ran_by}
-use Rattle.au_running.specs.Tells.{LoweredProgramsTell}
+use Rattle.au_running.specs.Tells.{EventsShow, LoweredProgramsTell, type_words}
 use Rattle.au_running.specs.declared.ran.Ran.{Ran}
 use Rattle.au_running.specs.declared.ran.Ran.TheVariants as how
 use Rattle.au_running.proofs.AnswerLemmas.{came_cut}
+use Rattle.au_running.proofs.FrontLemmas.{made_cut}
 use Rattle.au_syntax.specs.Plain.{Bytes}
 
 -- no run of code is answered as one that didn't begin
@@ -69,6 +74,35 @@ module _ (program : List ModuleParts) (noted : List NotedParts) (owner name : By
     shows = it.meant (record { derived = derived; declared = declared; plain = it.plain });
     tells = it.tells (record { derived = derived; declared = declared; plain = it.plain });
   }
+
+  -- what the lines of its events show, where they are asked for
+  pub lives_meant : (life : Bool) (ran : Ran) (lines : Bytes) (steps : ℕ) (told left out out' : Option (List ℕ))
+      → CompletesAsMeant program noted owner name life ran lines steps told left out out' → life ≡ true
+      → LivesAsMeant program noted owner name ran lines steps told
+  lives_meant false ran lines steps told left out out' done is = absurd (true≢false (sym is))
+  lives_meant true ran lines steps told left out out' done is =
+      let code = code_of done.it.c in
+      let run = done.run in
+      let made = run.made in
+      let input = made.taken ++ made.rest in
+      let words = type_words done.it.c.types in
+      let meant = means program noted done.it.closes.closes.entry in
+      let cut = made_cut run.ending (low_run true code) steps told left out out' run.events made in
+      let answered : ran_by code (low_run true code input steps).ending ≡ ran =
+      ap (ran_by code) made.ending ∙ sym run.answer in
+      record {
+        it = done.it;
+        input = input;
+        given = cut.given;
+        deeds = deeds_told code run.events;
+        are_lines = run.tells;
+        shows = λ unstuck.
+            subst (λ (events : List (Deed ℕ)). EventsShow words ran (meant input) steps
+            (deeds_told code events)) (sym made.tells)
+            (subst (λ (ran : Ran). EventsShow words ran (meant input) steps
+            (deeds_told code (low_run true code input steps).events)) answered
+            (done.tells input steps unstuck));
+      }
 
   module _ (law : LoweredProgramsRun) (also : LoweredProgramsTell)
       (are_plain : (c : ClosedProgram) → Closes program noted owner name c → CallsArePlain c.functions)

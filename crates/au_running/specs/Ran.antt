@@ -1,6 +1,6 @@
 -- What a call that runs a program has done, by the code that the program is lowered to, and what that shows
 -- of what the program means.
-use Rattle.std.specs.Prelude.{◌≡◌, ◌⊎◌, ℕ, Bool, true, false, List, [], Option}
+use Rattle.std.specs.Prelude.{◌≡◌, ◌⊎◌, ℕ, Bool, true, false, List, [], Option, IfSome}
 use Rattle.au_base.specs.declared.limits.Limit.{Limit}
 use Rattle.au_base.specs.declared.places.Pos.{Pos}
 use Rattle.au_modules.specs.Programs.{ModuleParts}
@@ -8,14 +8,17 @@ use Rattle.au_typing.specs.Trees.{NotedParts}
 use Rattle.au_closing.specs.Entries.{entry_of, not_of_the_form, nowhere}
 use Rattle.au_closed_programs.specs.Answers.{ClosesWithin, Passes}
 use Rattle.au_closed_programs.specs.Programs.{ClosedProgram}
+use Rattle.au_effects.specs.Worlds.{Deed}
 use Rattle.au_low.specs.Runs.{low_run}
 use Rattle.au_lowering.specs.Answers.{too_long}
 use Rattle.au_lowering.specs.Closed.{code_of, is_too_long}
+use Rattle.au_meaning.specs.Worlds.{stuck}
 use Rattle.au_running.specs.Asked.{CallsArePlain}
 use Rattle.au_running.specs.Came.{CodeEnds, CodeCompletes}
 use Rattle.au_running.specs.Meant.{means}
 use Rattle.au_running.specs.Runs.{IsRunnable, Refines}
-use Rattle.au_running.specs.Tells.{TellsMeant, type_words}
+use Rattle.au_running.specs.Lines.{deed_lines}
+use Rattle.au_running.specs.Tells.{EventsShow, TellsMeant, type_words}
 use Rattle.au_runs.specs.Calls.{IsCut}
 use Rattle.au_running.specs.declared.ran.Ran.{Ran}
 use Rattle.au_running.specs.declared.ran.Ran.TheVariants as ran
@@ -69,6 +72,19 @@ module _ (program : List ModuleParts) (noted : List NotedParts) (owner name : By
     pub shows : Refines (code_of it.c) (means program noted it.closes.closes.entry)
     pub tells :
         TellsMeant (type_words it.c.types) (code_of it.c) (means program noted it.closes.closes.entry)
+
+  -- These are the lines of the events of a run of the program's code on an input, of which this is answered.
+  -- Where what the program means on it isn't stuck within as many ticks as the run had steps, the events are
+  -- those of that, if the run has ended, and lie between those of that, if its steps were spent.
+  pub record LivesAsMeant (ran : Ran) (lines : Bytes) (steps : ℕ) (told : Option (List ℕ)) : Type 0 where
+    pub it : IsLowered
+    pub input : List ℕ
+    pub given : IfSome told (λ bytes. bytes ≡ input)
+    pub deeds : List (Deed Bytes)
+    pub are_lines : lines ≡ deed_lines deeds
+    pub shows :
+        ((means program noted it.closes.closes.entry input steps).ending ≡ stuck → ⊥)
+        → EventsShow (type_words it.c.types) ran (means program noted it.closes.closes.entry input) steps deeds
 
   -- What an answer says, and these lines, of a call that was to run the program for at most so many steps:
   -- there is no such entry, or a limit is passed, and nothing was done; or the program ran as code, and its

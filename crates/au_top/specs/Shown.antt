@@ -4,7 +4,7 @@ use Rattle.au_base.specs.declared.statuses.Status.{Status}
 use Rattle.au_base.specs.declared.statuses.Status.TheVariants as status
 use Rattle.au_syntax.specs.Plain.{Bytes}
 use Rattle.au_outcomes.specs.Lines.{abort_line, steps_line}
-use Rattle.au_running.specs.Ran.{CompletesAsMeant}
+use Rattle.au_running.specs.Ran.{CompletesAsMeant, LivesAsMeant}
 use Rattle.au_running.specs.declared.ran.Ran.{Ran}
 use Rattle.au_running.specs.declared.ran.Ran.TheVariants as how
 use Rattle.au_top.specs.Runs.{FromEntry, Run}
@@ -29,3 +29,20 @@ module _ (run : Run) (s : Streams) where
   IsAsMeant status.Abort = (words : Bytes) × ShowsMeaning (how.Abort words) (abort_line words)
   IsAsMeant status.Steps = ShowsMeaning how.Steps (steps_line run.steps)
   IsAsMeant other = Unit {0}
+
+  -- This is answered of the run, and the lines of its events, which show what the program means, stand on
+  -- `err`, and behind them this line.
+  pub record ShowsLives (ran : Ran) (line : Bytes) : Type 0 where
+    pub lines : Bytes
+    pub lives :
+        FromEntry run (λ program noted owner name. LivesAsMeant program noted owner name ran lines run.steps
+        s.input.old)
+    pub told : Gains s.err (lines ++ line)
+
+  -- What a status of a call says of the events of the run, where they are asked for.
+  abbrev pub HasLives : Status → Type 0
+  HasLives status.Success = ShowsLives (how.Exit true) []
+  HasLives status.Failure = ShowsLives (how.Exit false) []
+  HasLives status.Abort = (words : Bytes) × ShowsLives (how.Abort words) (abort_line words)
+  HasLives status.Steps = ShowsLives how.Steps (steps_line run.steps)
+  HasLives other = Unit {0}
