@@ -13,8 +13,8 @@ use Rattle.au_noting_programs.specs.Faults.{IsDerived}
 use Rattle.au_outcomes.specs.Lines.{abort_line, steps_line}
 use Rattle.au_rules.specs.Good.{AllDeclarationsAreGood}
 use Rattle.au_runs.specs.Calls.{Rose}
-use Rattle.au_running.specs.Ran.{IsLowered, ProgramEnds, ProgramIsCut, is_read_fault, is_write_fault}
-use Rattle.au_running.specs.Came.{CodeCompletes}
+use Rattle.au_running.specs.Ran.{CompletesAsMeant, ProgramEnds, ProgramIsCut, is_read_fault}
+use Rattle.au_running.specs.Ran.{is_write_fault}
 use Rattle.au_running.specs.declared.ran.Ran.{Ran}
 use Rattle.au_running.specs.declared.ran.Ran.TheVariants as how
 use Rattle.au_top.specs.Calls.{is_decided}
@@ -314,28 +314,40 @@ module _ (run : Run) where
     module _ (declared : AllDeclarationsAreGood run.program) where
       -- what ran whole shows what is meant
       shown_by : (ran : Ran) (line lines : Bytes) (h : Runs run s ran lines) → Gains s.err (lines ++ line)
-          → (it : IsLowered run.program h.noted (entry_of run).«module» (entry_of run).function)
-          × CodeCompletes (code_of it.c) run.life ran lines run.steps s.input.old s.input.new s.out.old s.out.new
+          → CompletesAsMeant run.program h.noted (entry_of run).«module» (entry_of run).function run.life ran
+          lines run.steps s.input.old s.input.new s.out.old s.out.new
           → ShowsMeaning run s ran line
       shown_by ran line lines h told done = record {
         lines = lines;
-        runs = record {
-          noted = h.noted;
-          derived = h.derived;
-          done = as_meant run.program h.noted _ _ h.derived declared run.life ran lines run.steps s.input.old
-              s.input.new s.out.old s.out.new done.0 done.1;
-        };
+        runs = record { noted = h.noted; derived = h.derived; done = done };
         told = told;
       }
 
       ran_shown : (ran : Ran) → IsTold run s ran → IsAsMeant run s (run_status ran)
       ran_shown how.NoEntry h = tt
       ran_shown (how.Limit limit) h = tt
-      ran_shown (how.Exit true) h = shown_by (how.Exit true) [] h.lines h.runs h.told h.runs.done
-      ran_shown (how.Exit false) h = shown_by (how.Exit false) [] h.lines h.runs h.told h.runs.done
+      ran_shown (how.Exit true) h =
+          let done = h.runs.done in
+          shown_by (how.Exit true) [] h.lines h.runs h.told
+          (as_meant run.program h.runs.noted _ _ h.runs.derived declared run.life (how.Exit true) h.lines run.steps
+          s.input.old s.input.new s.out.old s.out.new done.0 done.1)
+      ran_shown (how.Exit false) h =
+          let done = h.runs.done in
+          shown_by (how.Exit false) [] h.lines h.runs h.told
+          (as_meant run.program h.runs.noted _ _ h.runs.derived declared run.life (how.Exit false) h.lines run.steps
+          s.input.old s.input.new s.out.old s.out.new done.0 done.1)
       ran_shown (how.Abort words) h =
-          (words, shown_by (how.Abort words) (abort_line words) h.lines h.runs h.told h.runs.done)
-      ran_shown how.Steps h = shown_by how.Steps (steps_line run.steps) h.lines h.runs h.told h.runs.done
+          let done = h.runs.done in (
+            words,
+            shown_by (how.Abort words) (abort_line words) h.lines h.runs h.told
+                (as_meant run.program h.runs.noted _ _ h.runs.derived declared run.life (how.Abort words)
+                h.lines run.steps s.input.old s.input.new s.out.old s.out.new done.0 done.1),
+          )
+      ran_shown how.Steps h =
+          let done = h.runs.done in
+          shown_by how.Steps (steps_line run.steps) h.lines h.runs h.told
+          (as_meant run.program h.runs.noted _ _ h.runs.derived declared run.life how.Steps h.lines run.steps
+          s.input.old s.input.new s.out.old s.out.new done.0 done.1)
       ran_shown how.Stuck h = tt
       ran_shown how.ReadFault h = tt
       ran_shown how.WriteFault h = tt
