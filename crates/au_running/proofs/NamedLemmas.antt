@@ -333,11 +333,14 @@ module _ {T C : Type 0} (told : ClosedType → LowType) (fn : Function ℕ T C) 
         | inr none ↦ let past = none.0 in absurd (omega (arith, within, many, past))
       ]
 
+  number_born : {id m n : ℕ} {home : Bytes} → born id m home ≡ born id n home → m ≡ n
+  number_born e = cc
+
   words_of : (deed : Event) → event_numbered (types_in (fn ∷ rest)) deed ≡ deed_to other_type deed
       → deed_to (type_text code) (event_numbered (types_in (fn ∷ rest)) deed)
       ≡ deed_to (λ of. (told of).text) deed
   words_of (born id of home) e =
-      let numbers : first_type of ≡ other_type of = cc in
+      let numbers : first_type of ≡ other_type of = number_born e in
       ap (λ text. born id text home) (listed_text of (listed_by of numbers))
   words_of (consumed id) e = refl
   words_of (opened borrow) e = refl

@@ -1,6 +1,6 @@
 //! From an accepted program to what a run of it does.
 
-ghost use Rattle.std.specs.Prelude.{◌≡◌, ◌⊎◌, false, [], List, IfOk, OnErr};
+ghost use Rattle.std.specs.Prelude.{◌≡◌, ◌⊎◌, false, List, IfOk, OnErr};
 ghost use Rattle.au_typing.specs.Trees.{NotedParts};
 ghost use Rattle.au_modules.specs.Slots as slots;
 ghost use Rattle.au_noting_programs.specs.Faults.{IsDerived};
@@ -50,20 +50,15 @@ pub fn run_program<I: Source, O: Sink>(
     lowered_programs_run();
     lowered_programs_tell();
     match closed_code(alloc, program, entry) {
-        Err(Uncoded::NoEntry) => Ok(unbegun(alloc, Ran::NoEntry)),
-        Err(Uncoded::Limit(limit)) => Ok(unbegun(alloc, Ran::Limit(limit))),
+        Err(Uncoded::NoEntry) => Ok(Report {
+            ran: Ran::NoEntry,
+            events: Vec::new(alloc),
+        }),
+        Err(Uncoded::Limit(limit)) => Ok(Report {
+            ran: Ran::Limit(limit),
+            events: Vec::new(alloc),
+        }),
         Err(Uncoded::Memory) => Err(Memory),
         Ok(code) => run_code(alloc, &code, life, steps, input, out),
-    }
-}
-
-/// What is told of a run that didn't begin.
-fn unbegun(alloc: Global, ran: Ran) -> Report
-    ensures ran { result.ran ≡ ran }
-    ensures events { result.events.items ≡ [] }
-{
-    Report {
-        ran,
-        events: Vec::new(alloc),
     }
 }
