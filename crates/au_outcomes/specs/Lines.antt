@@ -86,7 +86,6 @@ place_text names at =
 -- the word for what isn't built yet, as its line says it
 abbrev pub unbuilt_word : Unbuilt → List ℕ
 unbuilt_word unbuilt.Compile = codes "compile"
-unbuilt_word unbuilt.Life = codes "life"
 
 -- why files are not those of modules; a fault that is no refusal has no text
 abbrev pub pair_text : List (List ℕ) → ModuleFault → List ℕ

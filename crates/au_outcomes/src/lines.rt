@@ -217,7 +217,6 @@ fn unbuilt_word(what: Unbuilt) -> &'static [u8]
 {
     match what {
         Unbuilt::Compile => b"compile",
-        Unbuilt::Life => b"life",
     }
 }
 

@@ -42,6 +42,4 @@ pub enum Refusal {
 pub enum Unbuilt {
     /// The command `compile`.
     Compile,
-    /// A run that tells the lives of values.
-    Life,
 }

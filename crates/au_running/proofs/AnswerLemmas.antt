@@ -1,18 +1,25 @@
 -- What is answered of a run of code, by how it ended.
-use Rattle.std.proofs.Common.{◌≡◌, ℕ, false, List, Option, refl}
+use Rattle.std.proofs.Common.{◌≡◌, ◌⊎◌, inl, inr, ℕ, Bool, true, false, List, [], Option, refl, sym, ◌∙◌}
+use Rattle.std.proofs.Common.{IfOk, Result, Ok, Err, subst}
+use Rattle.std.proofs.Common.{true≢false}
+use Rattle.au_base.specs.declared.faults.Memory.{Memory}
 use Rattle.au_effects.specs.Worlds.{Deed}
 use Rattle.au_low.specs.declared.code.Code.{Code}
 use Rattle.au_low.specs.Runs.{low_run}
 use Rattle.au_low.specs.declared.endings.Ending.TheVariants as ending
 use Rattle.au_runs.specs.Calls as calls
-use Rattle.au_runs.specs.Calls.{IsCut, Rose, Runs, Says}
+use Rattle.au_runs.specs.Calls.{IsCut, Rose, Says}
 use Rattle.au_runs.specs.declared.ends.End.{End}
 use Rattle.au_runs.specs.declared.ends.End.TheVariants as end
-use Rattle.au_running.specs.Came.{CodeEnds, IsAbort, ran_of}
+use Rattle.au_running.specs.Came.{CodeEnds, NeedsMemory, is_told, ran_of}
+use Rattle.au_running.specs.Lines.{told_lines}
 use Rattle.au_running.specs.Ran.{is_read_fault, is_write_fault}
 use Rattle.au_running.specs.declared.ran.Ran.{Ran}
 use Rattle.au_running.specs.declared.ran.Ran.TheVariants as how
+use Rattle.au_running.specs.declared.ran.Report.{Report}
 use Rattle.au_running.proofs.FrontLemmas.{made_cut, waited_cut}
+use Rattle.au_running.proofs.MutedLemmas.{cut_muted, made_muted, waited_muted}
+use Rattle.au_syntax.specs.Plain.{Bytes}
 
 -- a call of the source or of the sink failed exactly where this is answered
 pub read_told : (code : Code) (ended : End) → calls.is_read_fault ended ≡ is_read_fault (ran_of code ended)
@@ -31,49 +38,94 @@ write_told code end.Stuck = refl
 write_told code end.ReadFault = refl
 write_told code end.WriteFault = refl
 
--- an abort whose words aren't told
-pub abort_cut : (ended : End) (run : Runs) (limit : ℕ) (told left out out' : Option (List ℕ))
-    (events : List (Deed ℕ)) → Says ended run limit told left out out' events → IsAbort ended
-    → IsCut run limit told out out'
-abort_cut (end.Exit success) run limit told left out out' events says none = absurd none
-abort_cut (end.Abort why) run limit told left out out' events says it =
-    made_cut (ending.Abort why) run limit told left out out' events says
-abort_cut end.Steps run limit told left out out' events says none = absurd none
-abort_cut end.Stuck run limit told left out out' events says none = absurd none
-abort_cut end.ReadFault run limit told left out out' events says none = absurd none
-abort_cut end.WriteFault run limit told left out out' events says none = absurd none
+-- a run of code of which no more is told than that a front of what it writes was written
+pub said_cut : (code : Code) (life : Bool) (ended : End) (limit : ℕ) (told left out out' : Option (List ℕ))
+    (events : List (Deed ℕ)) → Says ended (low_run life code) limit told left out out' events
+    → IsCut (low_run false code) limit told out out'
+said_cut code life (end.Exit success) limit told left out out' events says =
+    cut_muted life code limit told out out'
+    (made_cut (ending.Exit success) (low_run life code) limit told left out out' events says)
+said_cut code life (end.Abort why) limit told left out out' events says =
+    cut_muted life code limit told out out'
+    (made_cut (ending.Abort why) (low_run life code) limit told left out out' events says)
+said_cut code life end.Steps limit told left out out' events says =
+    cut_muted life code limit told out out'
+    (made_cut ending.Steps (low_run life code) limit told left out out' events says)
+said_cut code life end.Stuck limit told left out out' events says =
+    cut_muted life code limit told out out'
+    (made_cut ending.Stuck (low_run life code) limit told left out out' events says)
+said_cut code life end.ReadFault limit told left out out' events says =
+    waited_cut code limit told left out out' []
+    (waited_muted life code limit told left out out' events says)
+said_cut code life end.WriteFault limit told left out out' events says =
+    cut_muted life code limit told out out' says
 
--- no call failed in a run that aborted
-pub abort_quiet : (ended : End) (reads reads' writes writes' : ℕ)
-    → Rose (calls.is_read_fault ended) reads reads' → Rose (calls.is_write_fault ended) writes writes'
-    → IsAbort ended → (reads' ≡ reads) × (writes' ≡ writes)
-abort_quiet (end.Exit success) reads reads' writes writes' read written none = absurd none
-abort_quiet (end.Abort why) reads reads' writes writes' read written it = (read, written)
-abort_quiet end.Steps reads reads' writes writes' read written none = absurd none
-abort_quiet end.Stuck reads reads' writes writes' read written none = absurd none
-abort_quiet end.ReadFault reads reads' writes writes' read written none = absurd none
-abort_quiet end.WriteFault reads reads' writes writes' read written none = absurd none
+-- no call of the sink failed in a run that it takes memory to tell of
+pub told_still : (life : Bool) (ended : End) (writes writes' : ℕ)
+    → Rose (calls.is_write_fault ended) writes writes' → NeedsMemory life ended → writes' ≡ writes
+told_still life (end.Exit success) writes writes' written needs = written
+told_still life (end.Abort why) writes writes' written needs = written
+told_still life end.Steps writes writes' written needs = written
+told_still life end.Stuck writes writes' written needs = written
+told_still life end.ReadFault writes writes' written needs = written
+told_still life end.WriteFault writes writes' written (inl none) = absurd none
+told_still life end.WriteFault writes writes' written (inr none) = absurd (true≢false (sym none))
 
--- what is answered of a run, by how the call of the machine ended
-pub said_came : (code : Code) (ended : End) (limit : ℕ) (told left out out' : Option (List ℕ))
-    (events : List (Deed ℕ)) → Says ended (low_run false code) limit told left out out' events
-    → CodeEnds code (ran_of code ended) limit told left out out'
-said_came code (end.Exit success) limit told left out out' events says =
-    record { ending = ending.Exit success; answer = refl; events = events; made = says }
-said_came code (end.Abort why) limit told left out out' events says =
-    record { ending = ending.Abort why; answer = refl; events = events; made = says }
-said_came code end.Steps limit told left out out' events says =
-    record { ending = ending.Steps; answer = refl; events = events; made = says }
-said_came code end.Stuck limit told left out out' events says =
-    record { ending = ending.Stuck; answer = refl; events = events; made = says }
-said_came code end.ReadFault limit told left out out' events says = (events, says)
-said_came code end.WriteFault limit told left out out' events says = says
+-- nor one of the source, where its events aren't told
+pub told_quiet : (life : Bool) (ended : End) (reads reads' : ℕ)
+    → Rose (calls.is_read_fault ended) reads reads' → NeedsMemory life ended → life ≡ false
+    → reads' ≡ reads
+told_quiet life (end.Exit success) reads reads' read needs none = read
+told_quiet life (end.Abort why) reads reads' read needs none = read
+told_quiet life end.Steps reads reads' read needs none = read
+told_quiet life end.Stuck reads reads' read needs none = read
+told_quiet life end.ReadFault reads reads' read (inl no) none = absurd no
+told_quiet life end.ReadFault reads reads' read (inr is) none = absurd (true≢false (sym is ∙ none))
+told_quiet life end.WriteFault reads reads' read needs none = read
+
+-- what is answered and told of a run, by how the call of the machine ended
+pub said_came : (code : Code) (life : Bool) (ended : End) (limit : ℕ) (told left out out' : Option (List ℕ))
+    (events : List (Deed ℕ)) (lines : Bytes) → Says ended (low_run life code) limit told left out out' events
+    → lines ≡ told_lines (is_told life ended) code events
+    → CodeEnds code life (ran_of code ended) lines limit told left out out'
+said_came code life (end.Exit success) limit told left out out' events lines says tells = record {
+  ending = ending.Exit success;
+  answer = refl;
+  events = events;
+  made = says;
+  tells = tells;
+}
+said_came code life (end.Abort why) limit told left out out' events lines says tells =
+    record { ending = ending.Abort why; answer = refl; events = events; made = says; tells = tells }
+said_came code life end.Steps limit told left out out' events lines says tells =
+    record { ending = ending.Steps; answer = refl; events = events; made = says; tells = tells }
+said_came code life end.Stuck limit told left out out' events lines says tells =
+    record { ending = ending.Stuck; answer = refl; events = events; made = says; tells = tells }
+said_came code life end.ReadFault limit told left out out' events lines says tells =
+    record { events = events; waits = says; tells = tells }
+said_came code life end.WriteFault limit told left out out' events lines says tells =
+    cut_muted life code limit told out out' says
+
+-- the same of a report
+pub report_came : (r : Result Report Memory) (code : Code) (life : Bool) (ended : End) (limit : ℕ)
+    (told left out out' : Option (List ℕ)) (events : List (Deed ℕ))
+    → Says ended (low_run life code) limit told left out out' events
+    → IfOk r (λ report. report.ran ≡ ran_of code ended)
+    → IfOk r (λ report. report.events.items ≡ told_lines (is_told life ended) code events)
+    → IfOk r (λ report. CodeEnds code life report.ran report.events.items limit told left out out')
+report_came (Ok report) code life ended limit told left out out' events says ran lines =
+    subst (λ (ran : Ran). CodeEnds code life ran report.events.items limit told left out out') (sym ran)
+    (said_came code life ended limit told left out out' events report.events.items says lines)
+report_came (Err e) code life ended limit told left out out' events says ran lines = tt
 
 -- a run of code of which no more is told than that a front of what it writes was written
-pub came_cut : (code : Code) (ran : Ran) (limit : ℕ) (told left out out' : Option (List ℕ))
-    → CodeEnds code ran limit told left out out' → IsCut (low_run false code) limit told out out'
-came_cut code how.ReadFault limit told left out out' came =
-    waited_cut code limit told left out out' came.0 came.1
-came_cut code how.WriteFault limit told left out out' came = came
-came_cut code other limit told left out out' came =
-    made_cut came.ending (low_run false code) limit told left out out' came.events came.made
+pub came_cut : (code : Code) (life : Bool) (ran : Ran) (lines : Bytes) (limit : ℕ)
+    (told left out out' : Option (List ℕ)) → CodeEnds code life ran lines limit told left out out'
+    → IsCut (low_run false code) limit told out out'
+came_cut code life how.ReadFault lines limit told left out out' came =
+    waited_cut code limit told left out out' []
+    (waited_muted life code limit told left out out' came.events came.waits)
+came_cut code life how.WriteFault lines limit told left out out' came = came
+came_cut code life other lines limit told left out out' came =
+    made_cut came.ending (low_run false code) limit told left out out' []
+    (made_muted life code came.ending limit told left out out' came.events came.made)

@@ -1,5 +1,5 @@
 -- What runs show of what is meant that were broken off, that wait for a byte, or that are stuck.
-use Rattle.std.proofs.Common.{◌≡◌, ◌⊎◌, inl, inr, ℕ, false, List, ◌++◌, Option, refl, subst}
+use Rattle.std.proofs.Common.{◌≡◌, ◌⊎◌, inl, inr, ℕ, Bool, false, List, ◌++◌, Option, refl, subst}
 use Rattle.au_low.specs.Runs as low
 use Rattle.au_low.specs.Runs.{low_run}
 use Rattle.au_low.specs.declared.code.Code.{Code}
@@ -20,7 +20,9 @@ use Rattle.au_running.specs.declared.ran.Ran.{Ran}
 use Rattle.au_running.specs.declared.ran.Ran.TheVariants as how
 use Rattle.au_running.proofs.AnswerLemmas.{came_cut}
 use Rattle.au_running.proofs.FrontLemmas.{front_of_whole}
+use Rattle.au_running.proofs.MutedLemmas.{made_muted, waited_muted}
 use Rattle.au_running.proofs.RunLemmas.{runs_shown}
+use Rattle.au_syntax.specs.Plain.{Bytes}
 
 -- ---- endings
 
@@ -71,10 +73,11 @@ module _ (code : Code) (meant : List ℕ → ℕ → Outcome) (runs : Refines co
         cut.front;
   }
 
-  waiting_shows : (steps : ℕ) (told left out out' : Option (List ℕ))
-      → CodeEnds code how.ReadFault steps told left out out' → WaitsAsMeant meant steps told left out out'
-  waiting_shows steps told left out out' came =
-      let waited = came.1 in
+  waiting_shows : (life : Bool) (lines : Bytes) (steps : ℕ) (told left out out' : Option (List ℕ))
+      → CodeEnds code life how.ReadFault lines steps told left out out'
+      → WaitsAsMeant meant steps told left out out'
+  waiting_shows life lines steps told left out out' came =
+      let waited = waited_muted life code steps told left out out' came.events came.waits in
       record {
         taken = waited.taken;
         output = waited.output;
@@ -100,17 +103,19 @@ module _ (code : Code) (meant : List ℕ → ℕ → Outcome) (runs : Refines co
           absurd (subst (λ (end : low_endings.Ending). AnswerShows (ran_by code end) (meant input) limit
           run.output run.left) is (runs input limit unstuck))
 
-  stuck_as_meant : (steps : ℕ) (told left out out' : Option (List ℕ))
-      → CodeEnds code how.Stuck steps told left out out' → IsStuckAsMeant meant steps told left
-  stuck_as_meant steps told left out out' came = record {
-    taken = came.made.taken;
-    rest = came.made.rest;
-    input = came.made.input;
-    ending = stuck_meant (came.made.taken ++ came.made.rest) steps
-        (subst (λ (end : low_endings.Ending).
-        (low_run false code (came.made.taken ++ came.made.rest) steps).ending ≡ end)
-        (stuck_answered code came.ending came.answer) came.made.ending);
-  }
+  stuck_as_meant : (life : Bool) (lines : Bytes) (steps : ℕ) (told left out out' : Option (List ℕ))
+      → CodeEnds code life how.Stuck lines steps told left out out' → IsStuckAsMeant meant steps told left
+  stuck_as_meant life lines steps told left out out' came =
+      let made = made_muted life code came.ending steps told left out out' came.events came.made in
+      record {
+        taken = made.taken;
+        rest = made.rest;
+        input = made.input;
+        ending = stuck_meant (made.taken ++ made.rest) steps
+            (subst (λ (end : low_endings.Ending).
+            (low_run false code (made.taken ++ made.rest) steps).ending ≡ end)
+            (stuck_answered code came.ending came.answer) made.ending);
+      }
 
 -- ---- of programs that are lowered
 
@@ -120,9 +125,9 @@ cut_runs_write_fronts program noted owner name c closes runnable =
     (runs_shown program noted owner name c closes runnable)
 
 pub runs_write_fronts : RunsWriteFronts
-runs_write_fronts program noted owner name c closes runnable ran steps told left out out' came =
+runs_write_fronts program noted owner name c closes runnable life ran lines steps told left out out' came =
     cut_runs_write_fronts program noted owner name c closes runnable steps told out out'
-    (came_cut (code_of c) ran steps told left out out' came)
+    (came_cut (code_of c) life ran lines steps told left out out' came)
 
 pub waiting_runs_show : WaitingRunsShow
 waiting_runs_show program noted owner name c closes runnable =

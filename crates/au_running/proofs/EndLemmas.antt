@@ -48,7 +48,7 @@ abort_back texts (abort fault) why e = (fault, refl, cc)
 abort_back texts running why e = absurd (grind arith)
 abort_back texts stuck why e = absurd (grind arith)
 
-stuck_back : (texts : List Bytes) (end : source.Ending)
+pub stuck_back : (texts : List Bytes) (end : source.Ending)
     → ending_numbered texts end ≡ low_ending.Stuck → end ≡ stuck
 stuck_back texts (exit b) e = absurd (grind arith)
 stuck_back texts (abort fault) e = absurd (grind arith)
@@ -87,7 +87,7 @@ module _ {T C : Type 0} (told : ClosedType → LowType) (functions : List (Funct
   ends_alike = ap (λ (o : low.Outcome). o.ending) muted
 
   -- an eighth of the ticks isn't stuck either
-  fewer : (meant (limit / 8)).ending ≡ stuck → ⊥
+  pub fewer : (meant (limit / 8)).ending ≡ stuck → ⊥
   fewer e =
       let more = limit - limit / 8 in
       let eighth : limit / 8 ≤ limit = omega arith in

@@ -71,7 +71,7 @@ passed test (Some x) a e = by_test (test x) refl e
 -- ---- types
 
 -- what stands at the number of a type is it
-found_at : (types : List ClosedType) (of t : ClosedType) → slice_get types (type_number types of) ≡ Some t
+pub found_at : (types : List ClosedType) (of t : ClosedType) → slice_get types (type_number types of) ≡ Some t
     → same t of ≡ true
 found_at [] of t e = absurd (grind arith)
 found_at (first ∷ rest) of t e = by_test (same first of) refl e (found_at rest of t)

@@ -7,6 +7,10 @@ mod NumberingLemmas
 mod RowLemmas
 mod FollowedLemmas
 mod RunLemmas
+mod AlikeLemmas
+mod TellLemmas
+mod MutedLemmas
+mod LineLemmas
 mod FollowLemmas
 mod LeadLemmas
 pub mod FrontLemmas

@@ -1,29 +1,39 @@
--- The text of an abort that was called is one that the code has under its number: where it isn't, the meaning
--- would be followed by the same run with another number for it.
-use Rattle.std.proofs.Common.{◌≡◌, ℕ, suc, ◌+◌, true, List, [], ◌∷◌, Bool, false, cond, length, Option, Some}
-use Rattle.std.proofs.Common.{◌==◌, refl, sym, ap, subst, ◌∙◌, arith, slice_get, nat_lt, codes}
+-- The text of an abort that was called is one that the code has under its number, and so are the types of
+-- births: where one isn't, the meaning would be followed by the same run with another number for it.
+use Rattle.std.proofs.Common.{◌≡◌, ℕ, suc, ◌+◌, ◌<◌, true, List, [], ◌∷◌, ◌++◌, Bool, false, cond, not, length}
+use Rattle.std.proofs.Common.{Option, Some, ◌==◌, refl, sym, ap, ap₂, subst, ◌∙◌, arith, slice_get, nat_lt, codes}
+use Rattle.std.proofs.Common.{inl, inr, map, lt-ltb, ltb-true, ltb-false}
+use Rattle.std.specs.Option.{option_map}
 use Rattle.std.specs.Str.{bytes_eq}
+use Rattle.std.proofs.lemmas.List.{length-map}
+use Rattle.std.proofs.lemmas.Option.{slice_get-map, slice_get_cases, slice_get_within}
 use Rattle.std.proofs.lemmas.Slice.Eq.{bytes_eq-Decides}
+use Rattle.au_graphs.specs.Reached.{adds}
+use Rattle.au_graphs.proofs.HasLemmas.{adds_more}
+use Rattle.au_type_texts.specs.Same.{same}
 use Rattle.au_type_texts.specs.Types.{ClosedType}
+use Rattle.au_type_texts.proofs.SameLemmas.{same_is, same_self}
 use Rattle.au_effects.specs.Answers as answer
 use Rattle.au_effects.specs.Values as values
-use Rattle.au_effects.specs.Worlds.{bears, nothing}
+use Rattle.au_effects.specs.Worlds.{Deed, bears, nothing, born, consumed, opened, used, closed}
 use Rattle.au_low.specs.Instructions.{text_bytes}
 use Rattle.au_low.specs.Machines.{new_slots}
 use Rattle.au_low.specs.Runs as runs
-use Rattle.au_low.specs.Runs.{exec, low_run}
+use Rattle.au_low.specs.Runs.{Run, exec, first_machine, low_run}
 use Rattle.au_low.specs.declared.code.Code.{Code}
 use Rattle.au_low.specs.declared.code.LowType.{LowType}
 use Rattle.au_low.specs.declared.endings.Ending.TheVariants.{Abort}
 use Rattle.au_low.specs.declared.instructions.Instr.TheVariants as instr
-use Rattle.au_lowered.specs.Agreeing.{ending_numbered}
+use Rattle.au_lowered.specs.Agreeing.{ending_numbered, event_numbered}
 use Rattle.au_lowered.specs.Drafts.{Draft, plain, pushes_text, makes_case, ships_birth}
-use Rattle.au_lowered.specs.Programs.{lowered, slots_of, text_number, texts_in, type_number, types_in}
+use Rattle.au_lowered.specs.Maps.{deed_to}
+use Rattle.au_lowered.specs.Programs.{bodies, lowered, slots_of, text_number, texts_in, type_number, types_in}
+use Rattle.au_lowered.specs.Programs.{types_named}
 use Rattle.au_meaning.specs.Laws.{is_over}
 use Rattle.au_meaning.specs.Meanings.{begun, call_at, first_world, mean, root_born, seen}
 use Rattle.au_meaning.specs.Ticks.{Action, follows}
 use Rattle.au_meaning.specs.Views.{Field, Function, View}
-use Rattle.au_meaning.specs.Worlds.{Ending, Outcome, Value, abort, stuck}
+use Rattle.au_meaning.specs.Worlds.{Event, Outcome, Value, abort, stuck}
 use Rattle.au_shipped.specs.declared.prims.AbortKind.TheVariants as kind
 use Rattle.au_lowered.specs.Premises.{GoodView, Placed, numbered}
 use Rattle.au_lowered.specs.FollowPrograms.{EntryTakes, GoodProgram, HasFunction, HasProgram, coding}
@@ -33,6 +43,9 @@ use Rattle.au_lowered.proofs.TopLemmas.{Claims, Shows, ending_of, enters_if, ent
 use Rattle.au_lowered.specs.Runs.{run_at}
 use Rattle.au_lowered.specs.Sides.{Both, Coding, Common, Spot, all_meant}
 use Rattle.au_lowered.specs.Frames.{spot}
+use Rattle.au_running.specs.Lines.{text_if, type_text}
+use Rattle.au_running.proofs.AlikeLemmas.{alike_at}
+use Rattle.au_running.proofs.GoodLemmas.{found_at}
 use Rattle.au_syntax.specs.Plain.{Bytes}
 
 -- what is stuck doesn't abort
@@ -55,12 +68,23 @@ module _ {T C : Type 0} (told : ClosedType → LowType) (fn : Function ℕ T C) 
   abbrev other_number : Bytes → ℕ
   other_number text = cond (is_named text) (first_number text) (suc (first_number text))
 
+  abbrev pub first_type : ClosedType → ℕ
+  first_type of = type_number (types_in (fn ∷ rest)) of
+
+  -- whether the code has a type under its number
+  abbrev pub is_listed : ClosedType → Bool
+  is_listed of = nat_lt (first_type of) (length code.types)
+
+  -- a type that it hasn't gets another number
+  abbrev pub other_type : ClosedType → ℕ
+  other_type of = cond (is_listed of) (first_type of) (suc (first_type of))
+
   -- the code with these numbers
   abbrev other : Coding
   other = record {
     code = code;
     text = other_number;
-    of = type_number (types_in (fn ∷ rest));
+    of = other_type;
     slot = good.slot;
   }
 
@@ -69,6 +93,28 @@ module _ {T C : Type 0} (told : ClosedType → LowType) (fn : Function ℕ T C) 
   number_same text known =
       ap (λ b. cond b (first_number text) (suc (first_number text)))
       ((bytes_eq-Decides (text_bytes code (first_number text)) text).1 known)
+
+  type_same : (of : ClosedType) → is_listed of ≡ true → other_type of ≡ first_type of
+  type_same of listed = ap (λ b. cond b (first_type of) (suc (first_type of))) listed
+
+  -- a type that the code has under its number, and one that it has under the other number
+  type_there : (of : ClosedType) (type : LowType) → slice_get code.types (first_type of) ≡ Some type
+      → is_listed of ≡ true
+  type_there of type there =
+      lt-ltb (first_type of) (length code.types) (slice_get_within code.types (first_type of) type there)
+
+  other_there : (of : ClosedType) (type : LowType) → slice_get code.types (other_type of) ≡ Some type
+      → is_listed of ≡ true
+  other_there of type there =
+      by (is_listed of) refl (slice_get_within code.types (other_type of) type there)
+    where
+      by : (b : Bool) → is_listed of ≡ b → other_type of < length code.types → is_listed of ≡ true
+      by true is lt = is
+      by false is lt =
+          let least = ltb-false (first_type of) (length code.types) is in
+          let next : other_type of ≡ suc (first_type of) =
+          ap (λ b. cond b (first_type of) (suc (first_type of))) is in
+          absurd (omega (arith, least, next, lt))
 
   -- ---- the code has its functions
 
@@ -79,8 +125,14 @@ module _ {T C : Type 0} (told : ClosedType → LowType) (fn : Function ℕ T C) 
     texts = λ place text h.
         subst (λ n. (text_bytes code n ≡ text) × (nat_lt n (length code.texts) ≡ true))
         (sym (number_same text (p.texts place text h).0)) (p.texts place text h);
-    types = λ place of tag order home h. p.types place of tag order home h;
-    births = λ place call of order h. p.births place call of order h;
+    types = λ place of tag order home h.
+        let one = p.types place of tag order home h in (
+          one.0,
+          ap (λ n. slice_get code.types n) (type_same of (type_there of one.0 one.1)) ∙ one.1,
+        );
+    births = λ place call of order h.
+        let listed = p.births place call of order h in
+        ap (λ n. nat_lt n (length code.types)) (type_same of listed) ∙ listed;
   }
     where
       numbered_same : (place : ℕ) (draft : Draft) → get place ≡ Some draft
@@ -88,15 +140,20 @@ module _ {T C : Type 0} (told : ClosedType → LowType) (fn : Function ℕ T C) 
       numbered_same place (plain x) h = refl
       numbered_same place (pushes_text text) h =
           ap (λ n. instr.PushText n) (sym (number_same text (p.texts place text h).0))
-      numbered_same place (makes_case of tag order home) h = refl
-      numbered_same place (ships_birth call of order) h = refl
+      numbered_same place (makes_case of tag order home) h =
+          let one = p.types place of tag order home h in
+          ap (λ n. instr.Make n tag order home) (sym (type_same of (type_there of one.0 one.1)))
+      numbered_same place (ships_birth call of order) h =
+          ap (λ n. instr.Shipped call (Some n) order) (sym (type_same of (p.births place call of order h)))
 
   view_too : (see : View ℕ T C) → GoodView (coding told (fn ∷ rest) good.slot) see → GoodView other see
   view_too see v = record {
     constants = λ note name value e. v.constants note name value e;
     parameters = λ note c name one e. v.parameters note c name one e;
     plain_calls = λ note c name one e call born is. v.plain_calls note c name one e call born is;
-    linear = λ of type e. v.linear of type e;
+    linear = λ of type e.
+        v.linear of type
+        (sym (ap (λ n. slice_get code.types n) (type_same of (other_there of type e))) ∙ e);
   }
 
   has_too : HasProgram other (λ i. slice_get (fn ∷ rest) i)
@@ -115,20 +172,33 @@ module _ {T C : Type 0} (told : ClosedType → LowType) (fn : Function ℕ T C) 
 
   -- ---- a run with the other numbers
 
-  -- in some number of steps a run comes to this end, and stays as it is
-  pub record EndsInSteps (input : List ℕ) (end : Ending) : Type 0 where
+  -- in some number of steps a run comes to this end with these events, and stays as it is
+  pub record EndsInSteps (input : List ℕ) (meant : Outcome) : Type 0 where
     pub steps : ℕ
-    pub ends : (low_run true code input steps).ending ≡ ending_of other end
-    pub stays : is_over end ≡ true → (more : ℕ)
+    pub ends : (low_run true code input steps).ending ≡ ending_of other meant.ending
+    pub events :
+        (low_run true code input steps).events ≡ map (deed_to other_type) meant.world.store.deeds
+    pub stays : is_over meant.ending ≡ true → (more : ℕ)
         → low_run true code input (steps + more) ≡ low_run true code input steps
 
   ends_so : (input : List ℕ) (s : Spot) (meant : Outcome)
       → ((limit : ℕ) → low_run true code input limit ≡ exec code limit (run_at s 0))
-      → Shows other s meant → EndsInSteps input meant.ending
+      → Shows other s meant → EndsInSteps input meant
   ends_so input s meant is shows = record {
     steps = shows.steps;
     ends = ap (λ (o : runs.Outcome). o.ending) (is shows.steps ∙ shows.here);
+    events = ap (λ (o : runs.Outcome). o.events) (is shows.steps ∙ shows.here);
     stays = λ over more. is (shows.steps + more) ∙ shows.stays over more ∙ sym (is shows.steps);
+  }
+
+  -- a run that begins with the root, whose type has this number
+  abbrev root_run : (p : Field) (input : List ℕ) (number : ℕ) → Run
+  root_run p input number = record {
+    machine = first_machine (bears number (codes "Austral.Pervasive") nothing
+        (runs.first_world true (new_slots (slots_of fn) (values.root 0 ∷ []))));
+    output = [];
+    left = input;
+    made = 0;
   }
 
   abbrev root_too : (p : Field) (input : List ℕ) → Common other
@@ -136,9 +206,29 @@ module _ {T C : Type 0} (told : ClosedType → LowType) (fn : Function ℕ T C) 
       let c = first_common other input in
       record c { store = bears p.of (codes "Austral.Pervasive") nothing c.store }
 
+  -- the root's type is listed
+  root_listed : (p : Field) → fn.parameters ≡ p ∷ [] → is_listed p.of ≡ true
+  root_listed p one =
+      let all = types_named (bodies (fn ∷ rest)) in
+      let more = adds_more same (p.of ∷ []) all in
+      let front : types_in (fn ∷ rest) ≡ p.of ∷ more.0 =
+      ap (λ params. adds same [] (map (λ (q : Field). q.of) params ++ all)) one ∙ more.1 in
+      ap (λ types. nat_lt (type_number types p.of) (length (map told types))) front
+      ∙ ap (λ b. nat_lt (cond (not b) (1 + type_number more.0 p.of) 0) (length (map told (p.of ∷ more.0))))
+      (same_self p.of)
+
+  -- so a run begins with its other number too
+  begins_other : (p : Field) → fn.parameters ≡ p ∷ [] → (input : List ℕ) (limit : ℕ)
+      → low_run true code input limit
+      ≡ exec code limit (run_at (spot other entry_frame 0 []
+      (entry_slots (new_slots (slots_of fn) (values.root 0 ∷ []))) (root_too p input)) 0)
+  begins_other p is input limit =
+      begins_root told fn rest good p is input limit
+      ∙ ap (λ n. exec code limit (root_run p input n)) (sym (type_same p.of (root_listed p is)))
+
   entry_ends : (input : List ℕ) (ticks : ℕ) (params : List Field) → fn.parameters ≡ params
       → ((mean (λ i. slice_get (fn ∷ rest) i) 0 input ticks).ending ≡ stuck → ⊥)
-      → EndsInSteps input (mean (λ i. slice_get (fn ∷ rest) i) 0 input ticks).ending
+      → EndsInSteps input (mean (λ i. slice_get (fn ∷ rest) i) 0 input ticks)
   unfolding call_at follows
   entry_ends input ticks [] is claim =
       let functions = λ (i : ℕ). slice_get (fn ∷ rest) i in
@@ -160,7 +250,7 @@ module _ {T C : Type 0} (told : ClosedType → LowType) (fn : Function ℕ T C) 
       ticks)) is in
       let shows = enters_if other functions has_too fn (root ∷ []) (root_too p input) ticks refl
       (length (all_meant other (root ∷ [])) == length fn.parameters) refl in
-      ends_so input s (mean functions 0 input ticks) (begins_root told fn rest good p is input)
+      ends_so input s (mean functions 0 input ticks) (begins_other p is input)
       (subst (λ o. Claims other s o) (sym mean_is) shows claim)
   entry_ends input ticks (p ∷ q ∷ more) is claim =
       absurd (subst (λ params. EntryTakes params) is (good.entry fn refl))
@@ -200,6 +290,73 @@ module _ {T C : Type 0} (told : ClosedType → LowType) (fn : Function ℕ T C) 
       number_in : {m n : ℕ} → Abort (kind.Called m) ≡ Abort (kind.Called n) → m ≡ n
       number_in e = cc
 
+  -- ---- the types of births
+
+  -- events with the numbers of their types are those with the other numbers
+  events_same : (input : List ℕ) (ticks : ℕ)
+      → ((mean (λ i. slice_get (fn ∷ rest) i) 0 input ticks).ending ≡ stuck → ⊥)
+      → map (event_numbered (types_in (fn ∷ rest)))
+      (mean (λ i. slice_get (fn ∷ rest) i) 0 input ticks).world.store.deeds
+      ≡ map (deed_to other_type) (mean (λ i. slice_get (fn ∷ rest) i) 0 input ticks).world.store.deeds
+  events_same input ticks claim =
+      let deeds = (mean (λ i. slice_get (fn ∷ rest) i) 0 input ticks).world.store.deeds in
+      let one = runs_follow told (fn ∷ rest) good input ticks claim in
+      let two = entry_ends input ticks fn.parameters refl claim in
+      let first : List (Deed ℕ) = (low_run true code input one.steps).events in
+      let second : List (Deed ℕ) = (low_run true code input two.steps).events in
+      let counted : length first ≡ length second =
+      ap length one.agrees.events ∙ length-map deeds (event_numbered (types_in (fn ∷ rest)))
+      ∙ sym (length-map deeds (deed_to other_type)) ∙ sym (ap length two.events) in
+      sym one.agrees.events ∙ alike_at true code input one.steps two.steps counted ∙ two.events
+
+  -- so each type of a birth is listed
+  listed_by : (of : ClosedType) → first_type of ≡ other_type of → is_listed of ≡ true
+  listed_by of e = by (is_listed of) refl e
+    where
+      by : (b : Bool) → is_listed of ≡ b → first_type of ≡ cond b (first_type of) (suc (first_type of))
+          → is_listed of ≡ true
+      by true is e = is
+      by false is e =
+          let next : first_type of ≡ suc (first_type of) = e in absurd (omega (arith, next))
+
+  -- what the code says of a type that is listed
+  listed_text : (of : ClosedType) → is_listed of ≡ true → type_text code (first_type of) ≡ (told of).text
+  listed_text of listed =
+      let types = types_in (fn ∷ rest) in
+      let within = ltb-true (first_type of) (length code.types) listed in
+      let many : length code.types ≡ length types = length-map types told in
+      elim (slice_get_cases types (first_type of)).1 [
+        | inl there ↦
+            let is : there.0 ≡ of = same_is there.0 of (found_at types of there.0 there.2) in
+            ap text_if (slice_get-map told types (first_type of) ∙ ap (option_map told) there.2)
+            ∙ ap (λ t. (told t).text) is
+        | inr none ↦ let past = none.0 in absurd (omega (arith, within, many, past))
+      ]
+
+  number_born : {id m n : ℕ} {home : Bytes} → born id m home ≡ born id n home → m ≡ n
+  number_born e = cc
+
+  words_of : (deed : Event) → event_numbered (types_in (fn ∷ rest)) deed ≡ deed_to other_type deed
+      → deed_to (type_text code) (event_numbered (types_in (fn ∷ rest)) deed)
+      ≡ deed_to (λ of. (told of).text) deed
+  words_of (born id of home) e =
+      let numbers : first_type of ≡ other_type of = number_born e in
+      ap (λ text. born id text home) (listed_text of (listed_by of numbers))
+  words_of (consumed id) e = refl
+  words_of (opened borrow) e = refl
+  words_of (used borrow) e = refl
+  words_of (closed borrow) e = refl
+
+  all_words : (deeds : List Event)
+      → map (event_numbered (types_in (fn ∷ rest))) deeds ≡ map (deed_to other_type) deeds
+      → map (deed_to (type_text code)) (map (event_numbered (types_in (fn ∷ rest))) deeds)
+      ≡ map (deed_to (λ of. (told of).text)) deeds
+  all_words [] e = refl
+  all_words (deed ∷ more) e =
+      let here : event_numbered (types_in (fn ∷ rest)) deed ≡ deed_to other_type deed = cc in
+      let later : map (event_numbered (types_in (fn ∷ rest))) more ≡ map (deed_to other_type) more = cc in
+      ap₂ (λ d ds. d ∷ ds) (words_of deed here) (all_words more later)
+
 -- the text of an abort that was called is one that the code has
 pub abort_named : {T C : Type 0} (told : ClosedType → LowType) (functions : List (Function ℕ T C))
     → GoodProgram told functions → (input : List ℕ) (ticks : ℕ) (text : Bytes)
@@ -208,3 +365,16 @@ pub abort_named : {T C : Type 0} (told : ClosedType → LowType) (functions : Li
 unfolding call_at
 abort_named told [] good input ticks text e = absurd (not_called text e)
 abort_named told (fn ∷ rest) good input ticks text e = called_named told fn rest good input ticks text e
+
+-- the types of births are those that the code has under their numbers
+pub births_named : {T C : Type 0} (told : ClosedType → LowType) (functions : List (Function ℕ T C))
+    → GoodProgram told functions → (input : List ℕ) (ticks : ℕ)
+    → ((mean (λ i. slice_get functions i) 0 input ticks).ending ≡ stuck → ⊥)
+    → map (deed_to (type_text (lowered told functions))) (map (event_numbered (types_in functions))
+    (mean (λ i. slice_get functions i) 0 input ticks).world.store.deeds)
+    ≡ map (deed_to (λ of. (told of).text)) (mean (λ i. slice_get functions i) 0 input ticks).world.store.deeds
+unfolding call_at
+births_named told [] good input ticks claim = absurd (claim refl)
+births_named told (fn ∷ rest) good input ticks claim =
+    all_words told fn rest good (mean (λ i. slice_get (fn ∷ rest) i) 0 input ticks).world.store.deeds
+    (events_same told fn rest good input ticks claim)

@@ -1,6 +1,6 @@
 -- What runs show of what is meant that were broken off, that wait for a byte which couldn't be read, or that
 -- are stuck.
-use Rattle.std.specs.Prelude.{◌≡◌, ℕ, ◌<◌, false, List, ◌++◌, Option, IfSome}
+use Rattle.std.specs.Prelude.{◌≡◌, ℕ, ◌<◌, Bool, false, List, ◌++◌, Option, IfSome}
 use Rattle.std.specs.Option.{option_map}
 use Rattle.au_base.specs.Outside.{Adds, AddsFront}
 use Rattle.au_closed_programs.specs.Programs.{ClosedProgram, Closes}
@@ -67,8 +67,8 @@ OfLoweredPrograms P =
 -- written.
 abbrev pub RunsWriteFronts : Type 0
 RunsWriteFronts = OfLoweredPrograms (λ code meant.
-    (ran : Ran) (steps : ℕ) (told left out out' : Option (List ℕ))
-    → CodeEnds code ran steps told left out out' → WritesFront meant steps told out out')
+    (life : Bool) (ran : Ran) (lines : Bytes) (steps : ℕ) (told left out out' : Option (List ℕ))
+    → CodeEnds code life ran lines steps told left out out' → WritesFront meant steps told out out')
 
 -- So it was where a run was cut off, by a sink that failed or since memory ran out.
 abbrev pub CutRunsWriteFronts : Type 0
@@ -79,8 +79,9 @@ CutRunsWriteFronts = OfLoweredPrograms (λ code meant.
 -- Where a byte couldn't be read, all that a run had written is what is meant so far, whatever bytes follow.
 abbrev pub WaitingRunsShow : Type 0
 WaitingRunsShow = OfLoweredPrograms (λ code meant.
-    (steps : ℕ) (told left out out' : Option (List ℕ))
-    → CodeEnds code ran.ReadFault steps told left out out' → WaitsAsMeant meant steps told left out out')
+    (life : Bool) (lines : Bytes) (steps : ℕ) (told left out out' : Option (List ℕ))
+    → CodeEnds code life ran.ReadFault lines steps told left out out'
+    → WaitsAsMeant meant steps told left out out')
 
 -- A run of code that is stuck is one of a meaning that is stuck within as many ticks as it may make steps.
 abbrev pub StuckRunsAreMeant : Type 0
@@ -91,5 +92,5 @@ StuckRunsAreMeant = OfLoweredPrograms (λ code meant.
 -- So it is where it is answered that a run is stuck.
 abbrev pub StuckAnswersAreMeant : Type 0
 StuckAnswersAreMeant = OfLoweredPrograms (λ code meant.
-    (steps : ℕ) (told left out out' : Option (List ℕ))
-    → CodeEnds code ran.Stuck steps told left out out' → IsStuckAsMeant meant steps told left)
+    (life : Bool) (lines : Bytes) (steps : ℕ) (told left out out' : Option (List ℕ))
+    → CodeEnds code life ran.Stuck lines steps told left out out' → IsStuckAsMeant meant steps told left)

@@ -4,6 +4,8 @@ pub mod Meant
 pub mod Shown
 pub mod Runs
 pub mod Follows
+pub mod Lines
+pub mod Tells
 pub mod Came
 pub mod Ran
 pub mod Fronts

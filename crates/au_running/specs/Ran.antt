@@ -1,6 +1,6 @@
 -- What a call that runs a program has done, by the code that the program is lowered to, and what that shows
 -- of what the program means.
-use Rattle.std.specs.Prelude.{◌≡◌, ◌⊎◌, ℕ, Bool, true, false, List, Option}
+use Rattle.std.specs.Prelude.{◌≡◌, ◌⊎◌, ℕ, Bool, true, false, List, [], Option, IfSome}
 use Rattle.au_base.specs.declared.limits.Limit.{Limit}
 use Rattle.au_base.specs.declared.places.Pos.{Pos}
 use Rattle.au_modules.specs.Programs.{ModuleParts}
@@ -8,13 +8,17 @@ use Rattle.au_typing.specs.Trees.{NotedParts}
 use Rattle.au_closing.specs.Entries.{entry_of, not_of_the_form, nowhere}
 use Rattle.au_closed_programs.specs.Answers.{ClosesWithin, Passes}
 use Rattle.au_closed_programs.specs.Programs.{ClosedProgram}
+use Rattle.au_effects.specs.Worlds.{Deed}
 use Rattle.au_low.specs.Runs.{low_run}
 use Rattle.au_lowering.specs.Answers.{too_long}
 use Rattle.au_lowering.specs.Closed.{code_of, is_too_long}
+use Rattle.au_meaning.specs.Worlds.{stuck}
 use Rattle.au_running.specs.Asked.{CallsArePlain}
 use Rattle.au_running.specs.Came.{CodeEnds, CodeCompletes}
 use Rattle.au_running.specs.Meant.{means}
 use Rattle.au_running.specs.Runs.{IsRunnable, Refines}
+use Rattle.au_running.specs.Lines.{deed_lines}
+use Rattle.au_running.specs.Tells.{EventsShow, TellsMeant, type_words}
 use Rattle.au_runs.specs.Calls.{IsCut}
 use Rattle.au_running.specs.declared.ran.Ran.{Ran}
 use Rattle.au_running.specs.declared.ran.Ran.TheVariants as ran
@@ -41,7 +45,7 @@ module _ (program : List ModuleParts) (noted : List NotedParts) (owner name : By
 
   -- The program is lowered to the code of this: it closes to it from its entry within the limits, each
   -- shipped call in it is plain, and its code isn't too long. Where its runs are spoken of, every run of that
-  -- code shows what the program means from its entry.
+  -- code shows what the program means from its entry, and so do its events.
   pub record IsLowered : Type 0 where
     pub c : ClosedProgram
     pub closes : ClosesWithin program noted owner name c
@@ -49,6 +53,8 @@ module _ (program : List ModuleParts) (noted : List NotedParts) (owner name : By
     pub short : is_too_long c ≡ false
     pub meant : IsRunnable program noted c
         → Refines (code_of c) (means program noted closes.closes.entry)
+    pub tells : IsRunnable program noted c
+        → TellsMeant (type_words c.types) (code_of c) (means program noted closes.closes.entry)
 
   -- The program ran as code, and its run was cut off: a front of what the code writes within so many steps
   -- was written.
@@ -56,20 +62,40 @@ module _ (program : List ModuleParts) (noted : List NotedParts) (owner name : By
   ProgramIsCut steps told out out' =
       (it : IsLowered) × IsCut (low_run false (code_of it.c)) steps told out out'
 
-  -- A run of the program's code was completed, and this is answered of it. And where what the program
-  -- means isn't stuck within as many ticks as the run had steps, it shows that, as every run of the code does.
-  pub record CompletesAsMeant (ran : Ran) (steps : ℕ) (told left out out' : Option (List ℕ)) : Type 0 where
+  -- A run of the program's code was completed, and this is answered of it, with these lines of its events
+  -- where they are asked for. And where what the program means isn't stuck within as many ticks as the run had
+  -- steps, it shows that, as every run of the code does, and so do its events.
+  pub record CompletesAsMeant (life : Bool) (ran : Ran) (lines : Bytes) (steps : ℕ)
+      (told left out out' : Option (List ℕ)) : Type 0 where
     pub it : IsLowered
-    pub run : CodeCompletes (code_of it.c) ran steps told left out out'
+    pub run : CodeCompletes (code_of it.c) life ran lines steps told left out out'
     pub shows : Refines (code_of it.c) (means program noted it.closes.closes.entry)
+    pub tells :
+        TellsMeant (type_words it.c.types) (code_of it.c) (means program noted it.closes.closes.entry)
 
-  -- What an answer says of a call that was to run the program for at most so many steps: there is no such
-  -- entry, or a limit is passed, and nothing was done; or the program ran as code, and its run ended so.
-  abbrev pub ProgramEnds : Ran → ℕ → (told left out out' : Option (List ℕ)) → Type 0
-  ProgramEnds ran.NoEntry steps told left out out' = HasNoEntry × IsIdle told left out out'
-  ProgramEnds (ran.Limit limit) steps told left out out' = IsOverLimit limit × IsIdle told left out out'
-  ProgramEnds other steps told left out out' =
-      (it : IsLowered) × CodeEnds (code_of it.c) other steps told left out out'
+  -- These are the lines of the events of a run of the program's code on an input, of which this is answered.
+  -- Where what the program means on it isn't stuck within as many ticks as the run had steps, the events are
+  -- those of that, if the run has ended, and lie between those of that, if its steps were spent.
+  pub record LivesAsMeant (ran : Ran) (lines : Bytes) (steps : ℕ) (told : Option (List ℕ)) : Type 0 where
+    pub it : IsLowered
+    pub input : List ℕ
+    pub given : IfSome told (λ bytes. bytes ≡ input)
+    pub deeds : List (Deed Bytes)
+    pub are_lines : lines ≡ deed_lines deeds
+    pub shows :
+        ((means program noted it.closes.closes.entry input steps).ending ≡ stuck → ⊥)
+        → EventsShow (type_words it.c.types) ran (means program noted it.closes.closes.entry input) steps deeds
+
+  -- What an answer says, and these lines, of a call that was to run the program for at most so many steps:
+  -- there is no such entry, or a limit is passed, and nothing was done; or the program ran as code, and its
+  -- run ended so.
+  abbrev pub ProgramEnds : Bool → Ran → Bytes → ℕ → (told left out out' : Option (List ℕ)) → Type 0
+  ProgramEnds life ran.NoEntry lines steps told left out out' =
+      HasNoEntry × IsIdle told left out out' × (lines ≡ [])
+  ProgramEnds life (ran.Limit limit) lines steps told left out out' =
+      IsOverLimit limit × IsIdle told left out out' × (lines ≡ [])
+  ProgramEnds life other lines steps told left out out' =
+      (it : IsLowered) × CodeEnds (code_of it.c) life other lines steps told left out out'
 
 -- whether a call of the source failed, and whether one of the sink did
 abbrev pub is_read_fault : Ran → Bool

@@ -6,6 +6,7 @@ ghost use Rattle.au_running.specs.Fronts.{CutRunsWriteFronts, RunsWriteFronts, S
 ghost use Rattle.au_running.specs.Fronts.{StuckRunsAreMeant, WaitingRunsShow};
 ghost use Rattle.au_running.specs.Once.{ClosedFieldsAreOnce, ClosedParametersAreOnce};
 ghost use Rattle.au_running.specs.Runs.{LoweredProgramsRun};
+ghost use Rattle.au_running.specs.Tells.{LoweredProgramsTell};
 
 /// The parameters of each function that a derived program with good declarations closes to have names of
 /// their own.
@@ -21,6 +22,11 @@ pub fn closed_fields_are_once()
 /// Every run of the code that a program is lowered to shows what the program means from its entry.
 pub fn lowered_programs_run()
     ensures { LoweredProgramsRun }
+{}
+
+/// The events of every run of that code are those of what the program means from its entry.
+pub fn lowered_programs_tell()
+    ensures { LoweredProgramsTell }
 {}
 
 /// A run of that code does what the program means from its entry for any number of ticks for which that isn't

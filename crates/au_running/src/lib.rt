@@ -14,6 +14,7 @@ pub mod laws;
 pub mod plain_laws;
 mod ran;
 mod running;
+mod telling;
 
-pub use ran::Ran;
+pub use ran::{Ran, Report};
 pub use running::run_program;

@@ -1,4 +1,4 @@
-//! How a run of a program ended, or why it didn't begin.
+//! How a run of a program ended, or why it didn't begin, and what is told of it.
 
 use au_base::{Limit, Text};
 
@@ -21,4 +21,13 @@ pub enum Ran {
     ReadFault,
     /// What the program writes couldn't be written.
     WriteFault,
+}
+
+/// What is told of a run of a program.
+#[derive(Drop)]
+pub struct Report {
+    /// How it ended, or why it didn't begin.
+    pub ran: Ran,
+    /// The lines of its events, if they were to be told.
+    pub events: Vec<u8>,
 }

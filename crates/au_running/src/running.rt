@@ -1,6 +1,6 @@
 //! From an accepted program to what a run of it does.
 
-ghost use Rattle.std.specs.Prelude.{◌≡◌, ◌⊎◌, List, IfOk, OnErr};
+ghost use Rattle.std.specs.Prelude.{◌≡◌, ◌⊎◌, false, List, IfOk, OnErr};
 ghost use Rattle.au_typing.specs.Trees.{NotedParts};
 ghost use Rattle.au_modules.specs.Slots as slots;
 ghost use Rattle.au_noting_programs.specs.Faults.{IsDerived};
@@ -10,14 +10,14 @@ ghost use Rattle.au_runs.specs.Calls.{Rose};
 
 use crate::coding::{Uncoded, closed_code};
 use crate::ends::run_code;
-use crate::laws::lowered_programs_run;
-use crate::ran::Ran;
+use crate::laws::{lowered_programs_run, lowered_programs_tell};
+use crate::ran::{Ran, Report};
 use au_base::{Entry, Memory, Sink, Source};
 use au_noting_programs::NotedProgram;
 use std::alloc::Global;
 
 /// Runs an accepted program from the entry that is named by its module and its own name, for at most so many
-/// steps, on an input and a sink. What it closes to from there must call no shipped function of boxes,
+/// steps, on an input and a sink, and tells the lines of its events where these are asked for. What it closes to from there must call no shipped function of boxes,
 /// buffers or the terminal.
 ///
 /// # Errors
@@ -27,29 +27,38 @@ pub fn run_program<I: Source, O: Sink>(
     alloc: Global,
     program: &NotedProgram,
     entry: &Entry,
+    life: bool,
     steps: u64,
     input: &mut I,
     out: &mut O,
-) -> Result<Ran, Memory>
+) -> Result<Report, Memory>
     requires { ClosesPlainly (slots.modules program.now) entry.now.module entry.now.function }
-    ensures ran { IfOk result (λ ran. (noted : List NotedParts) × IsDerived (slots.modules program.now) noted
-        × ProgramEnds (slots.modules program.now) noted entry.now.module entry.now.function ran steps
-        (I.left input.old) (I.left input.new) (O.written out.old) (O.written out.new)) }
-    ensures read { IfOk result (λ ran. Rose (is_read_fault ran) (I.faults input.old) (I.faults input.new)) }
-    ensures written { IfOk result (λ ran. Rose (is_write_fault ran) (O.faults out.old) (O.faults out.new)) }
+    ensures ran { IfOk result (λ report. (noted : List NotedParts)
+        × IsDerived (slots.modules program.now) noted
+        × ProgramEnds (slots.modules program.now) noted entry.now.module entry.now.function life report.ran
+        report.events.items steps (I.left input.old) (I.left input.new) (O.written out.old) (O.written out.new)) }
+    ensures read { IfOk result (λ report. Rose (is_read_fault report.ran) (I.faults input.old) (I.faults input.new)) }
+    ensures written { IfOk result (λ report. Rose (is_write_fault report.ran) (O.faults out.old) (O.faults out.new)) }
     ensures broken { OnErr result (
         IsIdle (I.left input.old) (I.left input.new) (O.written out.old) (O.written out.new)
         ⊎ ((noted : List NotedParts) × IsDerived (slots.modules program.now) noted
         × ProgramIsCut (slots.modules program.now) noted entry.now.module entry.now.function steps
         (I.left input.old) (O.written out.old) (O.written out.new))) }
-    ensures quiet { OnErr result
-        ((I.faults input.new ≡ I.faults input.old) × (O.faults out.new ≡ O.faults out.old)) }
+    ensures still { OnErr result (O.faults out.new ≡ O.faults out.old) }
+    ensures quiet { OnErr result (life ≡ false → I.faults input.new ≡ I.faults input.old) }
 {
     lowered_programs_run();
+    lowered_programs_tell();
     match closed_code(alloc, program, entry) {
-        Err(Uncoded::NoEntry) => Ok(Ran::NoEntry),
-        Err(Uncoded::Limit(limit)) => Ok(Ran::Limit(limit)),
+        Err(Uncoded::NoEntry) => Ok(Report {
+            ran: Ran::NoEntry,
+            events: Vec::new(alloc),
+        }),
+        Err(Uncoded::Limit(limit)) => Ok(Report {
+            ran: Ran::Limit(limit),
+            events: Vec::new(alloc),
+        }),
         Err(Uncoded::Memory) => Err(Memory),
-        Ok(code) => run_code(alloc, &code, steps, input, out),
+        Ok(code) => run_code(alloc, &code, life, steps, input, out),
     }
 }

@@ -1,5 +1,5 @@
 -- From what was found and what was answered to how a call ended.
-use Rattle.std.proofs.Common.{◌≡◌, ℕ, true, false, List, [], Option, Some, Result, Ok, Err, IfErr, IfOk, OnOk}
+use Rattle.std.proofs.Common.{◌≡◌, ℕ, Bool, true, false, List, [], Option, Some, Result, Ok, Err, IfErr, IfOk, OnOk}
 use Rattle.std.proofs.Common.{IfSome}
 use Rattle.std.proofs.Common.{sym, refl, subst, inl, inr}
 use Rattle.std.specs.Prelude.{IsSomeAnd}
@@ -70,19 +70,20 @@ module _ (words : List (List ℕ)) (shelf : Shelf) (s : Streams) where
   answered_due (Err answer.Memory) files names arisen due are arises is read missed pays quiet fails kept =
       inr (inr (inl (record { ended = refl; untouched = fails; kept = kept })))
 
-  -- the answer to a run of an entry, with so many steps, of a program
-  abbrev Answers : Result Status AnswerFault → Option Entry → ℕ → Modules → Type 0
-  Answers r entry steps program =
-      RunAnswers r s (record { named = entry; steps = steps; program = slots.modules program })
+  -- the answer to a run of an entry, with so many steps, whose events are told or aren't, of a program
+  abbrev Answers : Result Status AnswerFault → Option Entry → ℕ → Bool → Modules → Type 0
+  Answers r entry steps life program =
+      RunAnswers r s (record { named = entry; steps = steps; life = life; program = slots.modules program })
 
   -- a program was run
   answered_run : (r : Result Status AnswerFault) (files : Files) (names : List (List ℕ)) (program : Modules)
-      (entry : Option Entry) (steps : ℕ) → AreTold shelf.files files
+      (entry : Option Entry) (steps : ℕ) (life : Bool) → AreTold shelf.files files
       → Arises words files names (outcome.Runs program)
-      → ((task : Task) → IsJob words task → (entry ≡ task.entry) × (steps ≡ task.steps))
+      → ((task : Task) → IsJob words task
+      → (entry ≡ task.entry) × (steps ≡ task.steps) × (life ≡ task.life))
       → shelf.new_faults ≡ shelf.old_faults → shelf.new_misses ≡ shelf.old_misses
-      → Answers r entry steps program → HasEnded (call_with (answer_ends r))
-  answered_run r files names program entry steps are arises asked read missed h =
+      → Answers r entry steps life program → HasEnded (call_with (answer_ends r))
+  answered_run r files names program entry steps life are arises asked read missed h =
       let found = runs_run words files names program arises in
       let same = asked found.0 found.1.0 in
       inr (inr (inr (inr (record {
@@ -94,8 +95,9 @@ module _ (words : List (List ℕ)) (shelf : Shelf) (s : Streams) where
           program = program;
           comes = found.2;
           run =
-              run_ends r s _ (subst (λ e. Answers r e found.0.steps program) same.0
-              (subst (λ n. Answers r entry n program) same.1 h));
+              run_ends r s _ (subst (λ e. Answers r e found.0.steps found.0.life program) same.0
+              (subst (λ n. Answers r entry n found.0.life program) same.1
+              (subst (λ b. Answers r entry steps b program) same.2 h)));
         };
         read = read;
         missed = missed;
@@ -104,17 +106,23 @@ module _ (words : List (List ℕ)) (shelf : Shelf) (s : Streams) where
   -- What was answered for what was found says how the call ended.
   pub answered : (r : Result Status AnswerFault) (names : List (List ℕ)) (arisen : Outcome)
       (entry : Option Entry)
-      (steps : ℕ) → ((files : Files) × AreTold shelf.files files × Arises words files names arisen)
-      → ((task : Task) → IsJob words task → (entry ≡ task.entry) × (steps ≡ task.steps))
+      (steps : ℕ) (life : Bool) → ((files : Files) × AreTold shelf.files files × Arises words files names arisen)
+      → ((task : Task) → IsJob words task
+      → (entry ≡ task.entry) × (steps ≡ task.steps) × (life ≡ task.life))
       → Counts false shelf.old_faults shelf.new_faults
       → Counts (is_missing arisen) shelf.old_misses shelf.new_misses
       → IfSome (due_of names arisen) (λ due. IfOk r (λ ends. Pays due ends s))
       → IfSome (due_of names arisen) (λ due. OnOk r (AreQuiet s))
       → IfSome (due_of names arisen) (λ due. IfErr r (λ fault. Fails fault due s))
       → IfSome (due_of names arisen) (λ due. HasStayed s.input)
-      → IfRuns arisen (λ program. RunAnswers r s (record { named = entry; steps = steps; program = program }))
+      → IfRuns arisen (λ program. RunAnswers r s (record {
+        named = entry;
+        steps = steps;
+        life = life;
+        program = program;
+      }))
       → (ends : Status) → ends ≡ answer_ends r → HasEnded (call_with ends)
-  answered r names arisen entry steps found asked read missed pays quiet fails kept runs ends is =
+  answered r names arisen entry steps life found asked read missed pays quiet fails kept runs ends is =
       subst (λ e. HasEnded (call_with e)) (sym is)
       (elim (due_or_runs names arisen) [
         | inl d ↦
@@ -124,12 +132,13 @@ module _ (words : List (List ℕ)) (shelf : Shelf) (s : Streams) where
             (subst (λ o. IfSome o (λ due. IfErr r (λ fault. Fails fault due s))) d.1 fails)
             (subst (λ o. IfSome o (λ due. HasStayed s.input)) d.1 kept)
         | inr p ↦
-            answered_run r found.0 names p.0 entry steps found.1
+            answered_run r found.0 names p.0 entry steps life found.1
             (subst (λ o. Arises words found.0 names o) p.1 found.2) asked read.1
             (subst (λ o. Counts (is_missing o) shelf.old_misses shelf.new_misses) p.1 missed).1
             (subst (λ o. IfRuns o (λ program. RunAnswers r s (record {
               named = entry;
               steps = steps;
+              life = life;
               program = program;
             }))) p.1 runs)
       ])

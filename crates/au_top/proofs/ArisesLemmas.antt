@@ -1,5 +1,5 @@
 -- What words and files come to.
-use Rattle.std.proofs.Common.{◌≡◌, true, ℕ, ◌<◌, List, String, Option, Result, Ok, Err, Vec}
+use Rattle.std.proofs.Common.{◌≡◌, true, Bool, ℕ, ◌<◌, List, String, Option, Result, Ok, Err, Vec}
 use Rattle.std.proofs.Common.{length, map, ap, ◌∙◌, refl, subst, arith, inl, inr}
 use Rattle.std.specs.Global.{Global}
 use Rattle.std.specs.String.{string_bytes}
@@ -57,13 +57,16 @@ pub said_names : (files of_job : Vec (String Global) Global) → files ≡ of_jo
     → map string_bytes files.items ≡ map string_bytes of_job.items
 said_names files of_job same = ap (λ (v : Vec (String Global) Global). map string_bytes v.items) same
 
--- the entry and the steps that a job says are those of the task of its words
+-- what a job says of a run is what the task of its words says
 pub said_task : (words : List (List ℕ)) (job : Job) (task : Task) (entry : Option Entry) (steps : ℕ)
-    → IsJob words (task_of job) → IsJob words task → entry ≡ job.entry → steps ≡ job.steps
-    → (entry ≡ task.entry) × (steps ≡ task.steps)
-said_task words job task entry steps asked other same_entry same_steps =
-    let one : task_of job ≡ task = one_job words (task_of job) task asked other in
-    (same_entry ∙ ap (λ (t : Task). t.entry) one, same_steps ∙ ap (λ (t : Task). t.steps) one)
+    (life : Bool) → IsJob words (task_of job) → IsJob words task → entry ≡ job.entry → steps ≡ job.steps
+    → life ≡ job.life → (entry ≡ task.entry) × (steps ≡ task.steps) × (life ≡ task.life)
+said_task words job task entry steps life asked other same_entry same_steps same_life =
+    let one : task_of job ≡ task = one_job words (task_of job) task asked other in (
+      same_entry ∙ ap (λ (t : Task). t.entry) one,
+      same_steps ∙ ap (λ (t : Task). t.steps) one,
+      same_life ∙ ap (λ (t : Task). t.life) one,
+    )
 
 -- what words and files come to is an outcome
 asks_outcome : (asked : Result Aim Unbuilt) (files : Files) (names : List (List ℕ)) (arisen : Outcome)

@@ -2,7 +2,7 @@
 use Rattle.std.proofs.Common.{◌≡◌, ℕ, Bool, true, false, List, length, Option, None, Some, Result}
 use Rattle.std.proofs.Common.{Ok, Err}
 use Rattle.std.proofs.Common.{ap, ◌∙◌, sym, refl, subst, ◌⊎◌, inl, inr, slice_get, zero-add}
-use Rattle.std.specs.Prelude.{IsSomeAnd, if◌then◌else◌}
+use Rattle.std.specs.Prelude.{IsSomeAnd}
 use Rattle.au_base.specs.declared.statuses.Status.{Status}
 use Rattle.au_base.specs.declared.statuses.Status.TheVariants as status
 use Rattle.au_base.specs.Outside.{Files}
@@ -89,13 +89,8 @@ task_comes words files names arisen task aim job asked arises =
     subst (λ ns. Comes aim files ns arisen) (sym comes.0) comes.1
 
 -- a run asks to run
-life_asks : (life : Bool) → life ≡ false → ◌≡◌ {A = Result Aim Unbuilt}
-    (if life then Err unbuilt.Life else Ok aims.Run) (Ok aims.Run)
-life_asks true h = cc
-life_asks false h = refl
-
 pub run_asks : (words : List (List ℕ)) (task : Task) → IsRun words task → asked_of task ≡ Ok aims.Run
-run_asks words task job = ap (asked_by task) job.1 ∙ life_asks task.life job.2
+run_asks words task job = ap asked_by job.1
 
 -- ---- what is due is one thing
 
@@ -400,7 +395,7 @@ pub check_accepted : (words : List (List ℕ)) (files : Files) (names : List (Li
     → arisen ≡ outcome.Accepted
 check_accepted words files names arisen task check arises past =
     checked_accepted files task.files arisen
-    (task_comes words files names arisen task aims.Check check.0 (ap (asked_by task) check.1) arises) past
+    (task_comes words files names arisen task aims.Check check.0 (ap asked_by check.1) arises) past
 
 -- accepted files that are explained come to the lives of their variables
 pub explain_tells : (words : List (List ℕ)) (files : Files) (names all : List (List ℕ)) (arisen : Outcome)
@@ -408,7 +403,7 @@ pub explain_tells : (words : List (List ℕ)) (files : Files) (names all : List 
     → AreAcceptedAs files task.files all reads → arisen ≡ outcome.Explained (read_lives reads)
 explain_tells words files names all arisen task reads job arises good =
     comes_asked aims.Explain files task.files all reads arisen good
-    (task_comes words files names arisen task aims.Explain job.0 (ap (asked_by task) job.1) arises)
+    (task_comes words files names arisen task aims.Explain job.0 (ap asked_by job.1) arises)
 
 -- ---- programs that are to run
 
@@ -427,25 +422,16 @@ explain_runs files names program h =
     comes_asked aims.Explain files names good.0 good.1 (outcome.Runs program) good.2 h in
     cc
 
--- that it's a run is asked, and no lives
+-- that it's a run is asked
 RunAsked : Task → Files → List (List ℕ) → Modules → Type 0
 RunAsked task files names program =
-    (task.command ≡ command.Run) × (task.life ≡ false) × Comes aims.Run files names (outcome.Runs program)
-
-life_runs : (task : Task) (files : Files) (names : List (List ℕ)) (program : Modules) (life : Bool)
-    → task.command ≡ command.Run → task.life ≡ life
-    → Asks (if life then Err unbuilt.Life else Ok aims.Run) files names (outcome.Runs program)
-    → RunAsked task files names program
-unfolding RunAsked
-life_runs task files names program true run is h =
-    absurd (let e : outcome.Runs program ≡ outcome.Refused (refusal.WordNotYet unbuilt.Life) = h in cc)
-life_runs task files names program false run is h = (run, is, h)
+    (task.command ≡ command.Run) × Comes aims.Run files names (outcome.Runs program)
 
 command_runs : (task : Task) (files : Files) (names : List (List ℕ)) (program : Modules) (c : Command)
-    → task.command ≡ c → Asks (asked_by task c) files names (outcome.Runs program)
+    → task.command ≡ c → Asks (asked_by c) files names (outcome.Runs program)
     → RunAsked task files names program
-command_runs task files names program command.Run is h = life_runs task files names program task.life is refl
-    h
+unfolding RunAsked
+command_runs task files names program command.Run is h = (is, h)
 command_runs task files names program command.Compile is h =
     absurd (let e : outcome.Runs program ≡ outcome.Refused (refusal.WordNotYet unbuilt.Compile) = h in cc)
 command_runs task files names program command.Explain is h = absurd (explain_runs files names program h)
@@ -458,7 +444,7 @@ pub runs_run : (words : List (List ℕ)) (files : Files) (names : List (List ℕ
 unfolding RunAsked
 runs_run words files names program h =
     let asked = command_runs h.0 files names program h.0.command refl h.3 in
-    (h.0, (h.1, asked.0, asked.1), subst (λ ns. Comes aims.Run files ns (outcome.Runs program)) h.2 asked.2)
+    (h.0, (h.1, asked.0), subst (λ ns. Comes aims.Run files ns (outcome.Runs program)) h.2 asked.1)
 
 -- what a run comes to whose files come to a program to run
 pub run_arises : (words : List (List ℕ)) (files : Files) (task : Task) (program : Modules) → IsRun words task

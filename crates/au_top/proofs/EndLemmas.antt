@@ -32,7 +32,7 @@ use Rattle.au_top.specs.Ends.{HasEnded, HasPaidAll, IsRunWhole}
 use Rattle.au_top.specs.Entered.{IsToRun}
 use Rattle.au_top.specs.Jobs.{asked_by}
 use Rattle.au_top.specs.Runs.{EndsAsRun, IsTold, Run, run_of, run_status}
-use Rattle.au_top.specs.Shown.{IsAsMeant}
+use Rattle.au_top.specs.Shown.{HasLives, IsAsMeant}
 use Rattle.au_top.specs.Streams.{AreQuiet, HasFailed, HasStayed, NeverFailed}
 use Rattle.au_top.proofs.ArisesLemmas.{arises_outcome}
 use Rattle.au_top.proofs.DueLemmas as due
@@ -328,6 +328,13 @@ module _ (call : Call) where
       (subst (λ (it : Run). AllDeclarationsAreGood it.program) (sym to.is_run) to.accepted.declared)
       call.status
       (ended_runs h files task is job good one to)
+
+  -- So are its events, where they are asked for.
+  pub ended_lives : Ending → (files : Files) (task : Task) → Tells call files → IsRun call.words task
+      → IsDecided call → (one : Run) → IsToRun files task one → one.life ≡ true
+      → HasLives one call.streams call.status
+  ended_lives h files task is job good one to asked =
+      run.run_lives one call.streams call.status (ended_shown h files task is job good one to) asked
 
   -- ---- by the status
 

@@ -1,5 +1,5 @@
 -- Which runs are entered, by the ways in which a call ends.
-use Rattle.std.proofs.Common.{◌≡◌, ◌↔◌, ℕ, true, false, List, Option, Some}
+use Rattle.std.proofs.Common.{◌≡◌, ◌↔◌, ℕ, Bool, true, false, List, Option, Some}
 use Rattle.std.proofs.Common.{ap, ◌∙◌, sym, refl, subst, ◌⊎◌, inl, inr}
 use Rattle.au_base.specs.declared.statuses.Status.{Status}
 use Rattle.au_base.specs.declared.statuses.Status.TheVariants as status
@@ -37,7 +37,8 @@ use Rattle.au_top.proofs.EndLemmas as of
 -- ---- by how it ran
 
 -- for a program with notes, and the entry and the most steps of its run
-module _ (program : List ModuleParts) (noted : List NotedParts) (owner name : Bytes) (steps : ℕ) where
+module _ (program : List ModuleParts) (noted : List NotedParts) (owner name : Bytes) (life : Bool)
+    (lines : Bytes) (steps : ℕ) where
   -- what closes to functions from its entry has that entry
   closes_entry : (c : ClosedProgram) → Closes program noted owner name c
       → HasNoEntry program noted owner name → ⊥
@@ -48,7 +49,7 @@ module _ (program : List ModuleParts) (noted : List NotedParts) (owner name : By
 
   -- what ran to an end of its own has its entry
   end_entry : (ran : Ran) (told left out out' : Option (List ℕ)) → is_run_end (run_status ran) ≡ true
-      → ProgramEnds program noted owner name ran steps told left out out'
+      → ProgramEnds program noted owner name life ran lines steps told left out out'
       → HasNoEntry program noted owner name → ⊥
   end_entry how.NoEntry told left out out' end h none = cc
   end_entry (how.Limit limit) told left out out' end h none = cc
@@ -61,14 +62,14 @@ module _ (program : List ModuleParts) (noted : List NotedParts) (owner name : By
 
   -- what is stuck has its entry
   stuck_entry : (told left out out' : Option (List ℕ))
-      → ProgramEnds program noted owner name how.Stuck steps told left out out'
+      → ProgramEnds program noted owner name life how.Stuck lines steps told left out out'
       → HasNoEntry program noted owner name → ⊥
   stuck_entry told left out out' h none = closes_entry h.0.c h.0.closes.closes none
 
   -- what has its entry, and ran without a limit that is passed, and without a failure, ended so or is stuck
   entry_ends : (ran : Ran) (told left out out' : Option (List ℕ)) → is_decided (run_status ran) ≡ true
       → (run_status ran ≡ status.Limit → ⊥)
-      → ProgramEnds program noted owner name ran steps told left out out'
+      → ProgramEnds program noted owner name life ran lines steps told left out out'
       → (HasNoEntry program noted owner name → ⊥)
       → (is_run_end (run_status ran) ≡ true) ⊎ (ran ≡ how.Stuck)
   entry_ends how.NoEntry told left out out' good no_limit h has = absurd (has h.0)
@@ -191,13 +192,15 @@ module _ (call : Call) (files : Files) (task : Task) (is : Tells call files)
   whole_can : ComesToRun call (IsRunWhole call.status call.streams) → IsRunEnd call → CanRun files task
   whole_can r end =
       let runs = r.run.done.runs in
-      ran_can r (λ noted. end_entry (slots.modules r.program) runs.noted _ _ r.task.steps r.run.ran
+      ran_can r (λ noted. end_entry (slots.modules r.program) runs.noted _ _ r.task.life r.run.done.lines
+      r.task.steps r.run.ran
       call.streams.input.old call.streams.input.new call.streams.out.old call.streams.out.new
       (sym (ap is_run_end r.run.status) ∙ end) runs.done)
 
   stuck_can : ReportsRun call how.Stuck → CanRun files task
   stuck_can r =
-      ran_can r (λ noted. stuck_entry (slots.modules r.program) r.run.runs.noted _ _ r.task.steps
+      ran_can r (λ noted. stuck_entry (slots.modules r.program) r.run.runs.noted _ _ r.task.life r.run.lines
+      r.task.steps
       call.streams.input.old call.streams.input.new call.streams.out.old call.streams.out.new r.run.runs.done)
 
 -- ---- by the ways in which a call ends
@@ -237,7 +240,7 @@ module _ (call : Call) where
   whole_enters files task is job good no_limit can r =
       let runs = r.run.done.runs in
       let entry = can_ran call files task is job r can in
-      elim (entry_ends (slots.modules r.program) runs.noted _ _ r.task.steps r.run.ran call.streams.input.old
+      elim (entry_ends (slots.modules r.program) runs.noted _ _ r.task.life r.run.done.lines r.task.steps r.run.ran call.streams.input.old
       call.streams.input.new call.streams.out.old call.streams.out.new
       (sym (ap is_decided r.run.status) ∙ good) (λ limit. no_limit (r.run.status ∙ limit)) runs.done entry) [
         | inl end ↦ inl (ap is_run_end r.run.status ∙ end)
@@ -286,6 +289,7 @@ module _ (call : Call) where
   run_promises h files is task job = record {
     runs = λ good run to. of.ended_runs call h files task is job good run to;
     shown = λ good run to. of.ended_shown call h files task is job good run to;
+    lives = λ good run to asked. of.ended_lives call h files task is job good run to asked;
     runs_only = λ end. ended_runs_only h files task is job end;
     entered = λ good no_limit. ended_entered h files task is job good no_limit;
     not_entered = λ good no_limit no_missing. ended_not_entered h files task is job good no_limit no_missing;

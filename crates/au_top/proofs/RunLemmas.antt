@@ -1,5 +1,5 @@
 -- What a call has done that ran a program.
-use Rattle.std.proofs.Common.{◌≡◌, ℕ, Bool, true, false, cond, List, Option}
+use Rattle.std.proofs.Common.{◌≡◌, ℕ, Bool, true, false, cond, List, [], ◌++◌, Option}
 use Rattle.std.proofs.Common.{Result, Ok, Err, IfOk, OnOk, refl, subst, ◌⊎◌}
 use Rattle.std.proofs.Common.{inl, inr, sym}
 use Rattle.au_base.specs.declared.names.Entry.{Entry}
@@ -10,18 +10,20 @@ use Rattle.au_syntax.specs.Plain.{Bytes}
 use Rattle.au_modules.specs.Programs.{ModuleParts}
 use Rattle.au_typing.specs.Trees.{NotedParts}
 use Rattle.au_noting_programs.specs.Faults.{IsDerived}
+use Rattle.au_outcomes.specs.Lines.{abort_line, steps_line}
 use Rattle.au_rules.specs.Good.{AllDeclarationsAreGood}
 use Rattle.au_runs.specs.Calls.{Rose}
-use Rattle.au_running.specs.Ran.{ProgramEnds, ProgramIsCut, CompletesAsMeant, is_read_fault, is_write_fault}
+use Rattle.au_running.specs.Ran.{CompletesAsMeant, ProgramEnds, ProgramIsCut, is_read_fault}
+use Rattle.au_running.specs.Ran.{is_write_fault}
 use Rattle.au_running.specs.declared.ran.Ran.{Ran}
 use Rattle.au_running.specs.declared.ran.Ran.TheVariants as how
 use Rattle.au_top.specs.Calls.{is_decided}
 use Rattle.au_top.specs.Ends.{IsRunStopped, RunAnswers}
 use Rattle.au_top.specs.Runs.{BreaksOff, EndsAsRun, FromEntry, IsTold, Run, Runs, entry_of, run_line}
 use Rattle.au_top.specs.Runs.{run_status}
-use Rattle.au_top.specs.Shown.{IsAsMeant, ShowsMeaning}
+use Rattle.au_top.specs.Shown.{HasLives, IsAsMeant, ShowsLives, ShowsMeaning}
 use Rattle.au_top.specs.Streams.{AreQuiet, Gains, GainsFront, HasFailed, HasStayed, Streams}
-use Rattle.au_running.proofs.ShownLemmas.{as_meant, ran_broken}
+use Rattle.au_running.proofs.ShownLemmas.{as_meant, lives_meant, ran_broken}
 use Rattle.au_top.specs.declared.saying.AnswerFault.{AnswerFault}
 use Rattle.au_top.specs.declared.saying.AnswerFault.TheVariants as answer
 
@@ -163,15 +165,16 @@ decided_read how.WriteFault h = refl
 -- ---- runs that were broken off
 
 -- for a program with notes, and the entry and the most steps of its run
-module _ (program : List ModuleParts) (noted : List NotedParts) (owner name : Bytes) (steps : ℕ) where
+module _ (program : List ModuleParts) (noted : List NotedParts) (owner name : Bytes) (life : Bool)
+    (steps : ℕ) where
   -- a run that was made is one of which a front was written, or nothing was
-  front_ran : (ran : Ran) (told left out out' : Option (List ℕ))
-      → ProgramEnds program noted owner name ran steps told left out out'
+  front_ran : (ran : Ran) (lines : Bytes) (told left out out' : Option (List ℕ))
+      → ProgramEnds program noted owner name life ran lines steps told left out out'
       → (out' ≡ out) ⊎ ProgramIsCut program noted owner name steps told out out'
-  front_ran how.NoEntry told left out out' h = inl h.1.1
-  front_ran (how.Limit limit) told left out out' h = inl h.1.1
-  front_ran other told left out out' h =
-      inr (ran_broken program noted owner name other steps told left out out' h)
+  front_ran how.NoEntry lines told left out out' h = inl h.1.1
+  front_ran (how.Limit limit) lines told left out out' h = inl h.1.1
+  front_ran other lines told left out out' h =
+      inr (ran_broken program noted owner name life other lines steps told left out out' h)
 
 -- for a run
 module _ (run : Run) where
@@ -195,15 +198,14 @@ module _ (run : Run) where
 
   module _ (s : Streams) where
     -- a run from this entry was made
-    pub has_ran : (entry : Entry) (ran : Ran) → entry ≡ entry_of run
+    pub has_ran : (entry : Entry) (ran : Ran) (lines : Bytes) → entry ≡ entry_of run
         → ((noted : List NotedParts) × IsDerived run.program noted
-        × ProgramEnds run.program noted entry.«module» entry.function ran run.steps s.input.old s.input.new
-        s.out.old
-        s.out.new)
-        → Runs run s ran
-    has_ran entry ran is h =
-        from_entry (λ program noted owner name. ProgramEnds program noted owner name ran run.steps s.input.old
-        s.input.new s.out.old s.out.new) entry is h
+        × ProgramEnds run.program noted entry.«module» entry.function run.life ran lines run.steps s.input.old
+        s.input.new s.out.old s.out.new)
+        → Runs run s ran lines
+    has_ran entry ran lines is h =
+        from_entry (λ program noted owner name. ProgramEnds program noted owner name run.life ran lines
+        run.steps s.input.old s.input.new s.out.old s.out.new) entry is h
 
     -- nothing was done
     pub idle_stopped : s.out.new ≡ s.out.old → HasStayed s.err → s.out.new_faults ≡ s.out.old_faults
@@ -233,10 +235,10 @@ module _ (run : Run) where
     ]
 
     -- memory ran out behind a run
-    ran_stopped : (ran : Ran) → Runs run s ran → HasStayed s.err → s.out.new_faults ≡ s.out.old_faults
-        → IsRunStopped s run
-    ran_stopped ran h err quiet =
-        elim (front_ran run.program h.noted _ _ run.steps ran s.input.old s.input.new s.out.old s.out.new
+    ran_stopped : (ran : Ran) (lines : Bytes) → Runs run s ran lines → HasStayed s.err
+        → s.out.new_faults ≡ s.out.old_faults → IsRunStopped s run
+    ran_stopped ran lines h err quiet =
+        elim (front_ran run.program h.noted _ _ run.life run.steps ran lines s.input.old s.input.new s.out.old s.out.new
         h.done) [
           | inl p ↦ idle_stopped p err quiet
           | inr p ↦
@@ -247,11 +249,12 @@ module _ (run : Run) where
         ]
 
     -- a run that a failure of its sink broke off
-    pub run_cut : (ran : Ran) → is_write_fault ran ≡ true → Runs run s ran
+    pub run_cut : (ran : Ran) (lines : Bytes) → is_write_fault ran ≡ true → Runs run s ran lines
         → Rose (is_write_fault ran) s.out.old_faults s.out.new_faults → HasStayed s.err
         → RunAnswers (Err answer.Write) s run
-    run_cut ran is h rose err =
-        let there : Runs run s how.WriteFault = subst (Runs run s) (written_is ran is) h in (
+    run_cut ran lines is h rose err =
+        let there : Runs run s how.WriteFault lines =
+        subst (λ ran. Runs run s ran lines) (written_is ran is) h in (
         inl (
           record {
             front =
@@ -259,7 +262,7 @@ module _ (run : Run) where
                   noted = there.noted;
                   derived = there.derived;
                   done =
-                      ran_broken run.program there.noted _ _ how.WriteFault run.steps s.input.old
+                      ran_broken run.program there.noted _ _ run.life how.WriteFault lines run.steps s.input.old
                       s.input.new
                       s.out.old s.out.new there.done;
                 };
@@ -270,79 +273,81 @@ module _ (run : Run) where
         )
 
     -- a run that was made, and what was said of it
-    pub run_said : (r : Result Status AnswerFault) (entry : Entry) (ran : Ran) → entry ≡ entry_of run
-        → is_write_fault ran ≡ false → Runs run s ran
+    pub run_said : (r : Result Status AnswerFault) (entry : Entry) (ran : Ran) (lines : Bytes)
+        → entry ≡ entry_of run → is_write_fault ran ≡ false → Runs run s ran lines
         → Rose (is_read_fault ran) s.input.old_faults s.input.new_faults
         → Rose (is_write_fault ran) s.out.old_faults s.out.new_faults
         → IfOk r (λ ends. ends ≡ run_status ran)
-        → OnOk r (Gains s.err (run_line entry run.steps ran))
+        → OnOk r (Gains s.err (lines ++ run_line entry run.steps ran))
         → OnOk r (s.err.new_faults ≡ s.err.old_faults)
-        → (r ≡ Err answer.Write → GainsFront s.err (run_line entry run.steps ran))
+        → (r ≡ Err answer.Write → GainsFront s.err (lines ++ run_line entry run.steps ran))
         → (r ≡ Err answer.Write → HasFailed s.err)
         → (r ≡ Err answer.Memory → HasStayed s.err)
         → RunAnswers r s run
-    run_said (Ok ends) entry ran is none h rose stays same adds errors front risen memory =
+    run_said (Ok ends) entry ran lines is none h rose stays same adds errors front risen memory =
         record {
           ran = ran;
           status = same;
           written = none;
-          done = record { runs = h; line = subst (λ e. Gains s.err (run_line e run.steps ran)) is adds };
+          done = record {
+            lines = lines;
+            runs = h;
+            told = subst (λ e. Gains s.err (lines ++ run_line e run.steps ran)) is adds;
+          };
           rose = rose;
           quiet = (subst (λ b. Rose b s.out.old_faults s.out.new_faults) none stays, errors);
         }
-    run_said (Err answer.Write) entry ran is none h rose stays same adds errors front risen memory =
+    run_said (Err answer.Write) entry ran lines is none h rose stays same adds errors front risen memory =
         inr (
           ran,
+          lines,
           h,
-          subst (λ e. GainsFront s.err (run_line e run.steps ran)) is (front refl),
+          subst (λ e. GainsFront s.err (lines ++ run_line e run.steps ran)) is (front refl),
           subst (λ b. Rose b s.out.old_faults s.out.new_faults) none stays,
           risen refl,
         )
-    run_said (Err answer.Memory) entry ran is none h rose stays same adds errors front risen memory =
-        ran_stopped ran h (memory refl) (subst (λ b. Rose b s.out.old_faults s.out.new_faults) none stays)
+    run_said (Err answer.Memory) entry ran lines is none h rose stays same adds errors front risen memory =
+        ran_stopped ran lines h (memory refl) (subst (λ b. Rose b s.out.old_faults s.out.new_faults) none stays)
 
     -- ---- what is shown
 
     module _ (declared : AllDeclarationsAreGood run.program) where
       -- what ran whole shows what is meant
-      shown_by : (ran : Ran) (h : Runs run s ran)
-          → CompletesAsMeant run.program h.noted (entry_of run).«module» (entry_of run).function ran run.steps
-          s.input.old s.input.new s.out.old s.out.new
-          → ShowsMeaning run s ran
-      shown_by ran h done = record { noted = h.noted; derived = h.derived; done = done }
+      shown_by : (ran : Ran) (line lines : Bytes) (h : Runs run s ran lines) → Gains s.err (lines ++ line)
+          → CompletesAsMeant run.program h.noted (entry_of run).«module» (entry_of run).function run.life ran
+          lines run.steps s.input.old s.input.new s.out.old s.out.new
+          → ShowsMeaning run s ran line
+      shown_by ran line lines h told done = record {
+        lines = lines;
+        runs = record { noted = h.noted; derived = h.derived; done = done };
+        told = told;
+      }
 
       ran_shown : (ran : Ran) → IsTold run s ran → IsAsMeant run s (run_status ran)
       ran_shown how.NoEntry h = tt
       ran_shown (how.Limit limit) h = tt
       ran_shown (how.Exit true) h =
-          let done = h.runs.done in (
-            shown_by (how.Exit true) h.runs
-                (as_meant run.program h.runs.noted _ _ h.runs.derived declared (how.Exit true) run.steps
-                s.input.old s.input.new s.out.old s.out.new done.0 done.1),
-            h.line,
-          )
+          let done = h.runs.done in
+          shown_by (how.Exit true) [] h.lines h.runs h.told
+          (as_meant run.program h.runs.noted _ _ h.runs.derived declared run.life (how.Exit true) h.lines run.steps
+          s.input.old s.input.new s.out.old s.out.new done.0 done.1)
       ran_shown (how.Exit false) h =
-          let done = h.runs.done in (
-            shown_by (how.Exit false) h.runs
-                (as_meant run.program h.runs.noted _ _ h.runs.derived declared (how.Exit false) run.steps
-                s.input.old s.input.new s.out.old s.out.new done.0 done.1),
-            h.line,
-          )
+          let done = h.runs.done in
+          shown_by (how.Exit false) [] h.lines h.runs h.told
+          (as_meant run.program h.runs.noted _ _ h.runs.derived declared run.life (how.Exit false) h.lines run.steps
+          s.input.old s.input.new s.out.old s.out.new done.0 done.1)
       ran_shown (how.Abort words) h =
           let done = h.runs.done in (
             words,
-            shown_by (how.Abort words) h.runs
-                (as_meant run.program h.runs.noted _ _ h.runs.derived declared (how.Abort words) run.steps
-                s.input.old s.input.new s.out.old s.out.new done.0 done.1),
-            h.line,
+            shown_by (how.Abort words) (abort_line words) h.lines h.runs h.told
+                (as_meant run.program h.runs.noted _ _ h.runs.derived declared run.life (how.Abort words)
+                h.lines run.steps s.input.old s.input.new s.out.old s.out.new done.0 done.1),
           )
       ran_shown how.Steps h =
-          let done = h.runs.done in (
-            shown_by how.Steps h.runs
-                (as_meant run.program h.runs.noted _ _ h.runs.derived declared how.Steps run.steps
-                s.input.old s.input.new s.out.old s.out.new done.0 done.1),
-            h.line,
-          )
+          let done = h.runs.done in
+          shown_by how.Steps (steps_line run.steps) h.lines h.runs h.told
+          (as_meant run.program h.runs.noted _ _ h.runs.derived declared run.life how.Steps h.lines run.steps
+          s.input.old s.input.new s.out.old s.out.new done.0 done.1)
       ran_shown how.Stuck h = tt
       ran_shown how.ReadFault h = tt
       ran_shown how.WriteFault h = tt
@@ -350,3 +355,24 @@ module _ (run : Run) where
       -- What is seen of a run is what its program means.
       pub run_shown : (ends : Status) → EndsAsRun run s ends → IsAsMeant run s ends
       run_shown ends h = subst (IsAsMeant run s) (sym h.status) (ran_shown h.ran h.done)
+
+    -- and so do the lines of its events, where they are asked for
+    lives_by : (ran : Ran) (line : Bytes) → ShowsMeaning run s ran line → run.life ≡ true
+        → ShowsLives run s ran line
+    lives_by ran line h asked = record {
+      lines = h.lines;
+      lives = record {
+        noted = h.runs.noted;
+        derived = h.runs.derived;
+        done = lives_meant run.program h.runs.noted _ _ run.life ran h.lines run.steps s.input.old s.input.new
+            s.out.old s.out.new h.runs.done asked;
+      };
+      told = h.told;
+    }
+
+    pub run_lives : (ends : Status) → IsAsMeant run s ends → run.life ≡ true → HasLives run s ends
+    run_lives status.Success h asked = lives_by (how.Exit true) [] h asked
+    run_lives status.Failure h asked = lives_by (how.Exit false) [] h asked
+    run_lives status.Abort h asked = (h.0, lives_by (how.Abort h.0) (abort_line h.0) h.1 asked)
+    run_lives status.Steps h asked = lives_by how.Steps (steps_line run.steps) h asked
+    run_lives other h asked = tt

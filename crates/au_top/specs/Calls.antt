@@ -1,5 +1,5 @@
 -- A call, how it ends, and what it leaves on its streams.
-use Rattle.std.specs.Prelude.{◌≡◌, ◌⊎◌, ℕ, Bool, true, false, IsTrue, IsSomeAnd, List, Option, Some, Ok}
+use Rattle.std.specs.Prelude.{◌≡◌, ◌⊎◌, ℕ, Bool, true, false, IsTrue, IsSomeAnd, List, ◌++◌, Option, Some, Ok}
 use Rattle.au_base.specs.declared.limits.Limit.{Limit}
 use Rattle.au_base.specs.declared.outside.Shelf as shelf
 use Rattle.au_base.specs.declared.statuses.Status.{Status}
@@ -202,7 +202,7 @@ HasProgram call = HasOutcome call (λ names arisen. (program : Modules) × (aris
 
 -- ---- runs
 
--- The words are a `run` for which nothing isn't built, and its files, of those that are told, have come to a
+-- The words are a `run`, and its files, of those that are told, have come to a
 -- program that is to run. P holds of that run.
 pub record ComesToRun (call : Call) (P : Run → Type 0) : Type 0 where
   pub files : Files
@@ -213,8 +213,8 @@ pub record ComesToRun (call : Call) (P : Run → Type 0) : Type 0 where
   pub comes : Comes aims.Run files task.files (outcome.Runs program)
   pub run : P (run_of task (slots.modules program))
 
--- The call came to a run, which ended with this answer, and reports that: the line that is due stands on
--- `err`.
+-- The call came to a run, which ended with this answer, and reports that: what is told of the run stands on
+-- `err`, the lines of its events, where they are asked for, and the line that is due.
 abbrev pub ReportsRun : Call → Ran → Type 0
 ReportsRun call ran = ComesToRun call (λ run. IsTold run call.streams ran)
 
@@ -223,12 +223,12 @@ abbrev pub HasRunItsProgram : Call → Type 0
 HasRunItsProgram call = ComesToRun call (λ run. EndsAsRun run call.streams call.status)
 
 -- A sink failed while a program ran or behind it: `out` did, and the run was broken off; or the program ran,
--- and a front of its line stands on `err`.
+-- and a front of what is told of it stands on `err`.
 abbrev pub IsRunCut : Run → Streams → Type 0
 IsRunCut run s =
     (BreaksOff run s × HasFailed s.out)
-    ⊎ ((ran : Ran) × Runs run s ran × GainsFront s.err (line_of run ran) × NeverFailed s.out
-    × HasFailed s.err)
+    ⊎ ((ran : Ran) × (lines : List ℕ) × Runs run s ran lines × GainsFront s.err (lines ++ line_of run ran)
+    × NeverFailed s.out × HasFailed s.err)
 
 -- ---- what a status says
 

@@ -1,5 +1,5 @@
 -- What words and files come to, and what is due for it.
-use Rattle.std.specs.Prelude.{◌≡◌, ℕ, ◌<◌, ◌≤◌, ◌⊎◌, false, List, [], length, slice_get}
+use Rattle.std.specs.Prelude.{◌≡◌, ℕ, ◌<◌, ◌≤◌, ◌⊎◌, List, [], length, slice_get}
 use Rattle.std.specs.Prelude.{Result, Ok, Err, Option, None, Some}
 use Rattle.au_base.specs.declared.statuses.Status.{Status}
 use Rattle.au_base.specs.declared.statuses.Status.TheVariants as status
@@ -96,6 +96,6 @@ IsCheck words task = IsJob words task × (task.command ≡ command.Check)
 abbrev pub IsExplain : List (List ℕ) → Task → Type 0
 IsExplain words task = IsJob words task × (task.command ≡ command.Explain)
 
--- The words are this job, a `run` that asks for nothing that isn't built.
+-- The words are this job, a `run`.
 abbrev pub IsRun : List (List ℕ) → Task → Type 0
-IsRun words task = IsJob words task × (task.command ≡ command.Run) × (task.life ≡ false)
+IsRun words task = IsJob words task × (task.command ≡ command.Run)

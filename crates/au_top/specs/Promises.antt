@@ -14,18 +14,24 @@ use Rattle.au_top.specs.Dues.{AsksForNoFile, AsksForTooMany, Due, IsAcceptedJob,
 use Rattle.au_top.specs.Dues.{IsUnread, Owes, accepted_due, explained_due}
 use Rattle.au_top.specs.Entered.{CanRun, IsToRun}
 use Rattle.au_top.specs.Runs.{EndsAsRun, Run}
-use Rattle.au_top.specs.Shown.{IsAsMeant}
+use Rattle.au_top.specs.Shown.{HasLives, IsAsMeant}
 use Rattle.au_top.specs.Streams.{AreQuiet, HasStayed, NeverFailed}
 
 -- What is promised of a call whose words are this job, a `run`, over these files.
 pub record RunPromises (call : Call) (files : Files) (task : Task) : Type 0 where
   -- The code of its files' program is run where they are accepted and name nothing that isn't built yet: the
   -- call ends as the run of that code does, its output is what that writes, the input is left as that leaves
-  -- it, and its line tells how the run ended.
+  -- it, the lines of its events stand on `err`, where they are asked for, and its line tells how the run ended.
   pub runs : IsDecided call → (run : Run) → IsToRun files task run → EndsAsRun run call.streams call.status
   -- Then what is seen of the run is what the program means on its input, where that isn't stuck: it ends with
   -- 0 or 1, with 3 or with 4 by how its meaning ends within the steps, and has written what that writes.
   pub shown : IsDecided call → (run : Run) → IsToRun files task run → IsAsMeant run call.streams call.status
+  -- With `--life` the lines of the events of that run stand before its line, and where what the program means
+  -- isn't stuck, they are the events of that where the run has ended, and lie between those of that, as its
+  -- output does, where the steps were spent.
+  pub lives :
+      IsDecided call → (run : Run) → IsToRun files task run → run.life ≡ true
+      → HasLives run call.streams call.status
   -- It ends so only where its program can run: where the files are accepted and name nothing that isn't
   -- built yet, and the program has its entry.
   pub runs_only : IsRunEnd call → CanRun files task

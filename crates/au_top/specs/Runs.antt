@@ -1,6 +1,6 @@
 -- What a call has done that runs a program.
-use Rattle.std.specs.Prelude.{◌≡◌, ℕ, ◌-◌, if◌then◌else◌, List, [], length, slice_get}
-use Rattle.std.specs.Prelude.{codes}
+use Rattle.std.specs.Prelude.{◌≡◌, ℕ, ◌-◌, Bool, if◌then◌else◌, List, [], ◌++◌, length}
+use Rattle.std.specs.Prelude.{slice_get, codes}
 use Rattle.std.specs.Prelude.{Option, None, Some, unwrap_or}
 use Rattle.au_base.specs.declared.names.Entry.{Entry}
 use Rattle.au_base.specs.declared.statuses.Status.{Status}
@@ -34,15 +34,22 @@ abbrev pub entry_for : Option Entry → List ModuleParts → Entry
 entry_for (Some named) program = named
 entry_for None program = main_of program
 
--- what a run is of: the entry that is named if one is, the most steps, and the program
+-- what a run is of: the entry that is named if one is, the most steps, whether its events are told, and the
+-- program
 pub record Run : Type 0 where
   pub named : Option Entry
   pub steps : ℕ
+  pub life : Bool
   pub program : List ModuleParts
 
 -- the run that a job asks for, of the program of its files
 abbrev pub run_of : Task → List ModuleParts → Run
-run_of task program = record { named = task.entry; steps = task.steps; program = program }
+run_of task program = record {
+  named = task.entry;
+  steps = task.steps;
+  life = task.life;
+  program = program;
+}
 
 -- the entry at which it begins
 abbrev pub entry_of : Run → Entry
@@ -89,16 +96,18 @@ pub record FromEntry (run : Run) (P : List ModuleParts → List NotedParts → (
 
 -- for a run, and the streams of the call
 module _ (run : Run) (s : Streams) where
-  -- The program ran so as code: it took from the input, and wrote to `out`.
-  abbrev pub Runs : Ran → Type 0
-  Runs ran =
-      FromEntry run (λ program noted owner name. ProgramEnds program noted owner name ran run.steps
-      s.input.old s.input.new s.out.old s.out.new)
+  -- The program ran so as code, with these lines of its events: it took from the input, and wrote to `out`.
+  abbrev pub Runs : Ran → Bytes → Type 0
+  Runs ran lines =
+      FromEntry run (λ program noted owner name. ProgramEnds program noted owner name run.life ran lines
+      run.steps s.input.old s.input.new s.out.old s.out.new)
 
-  -- It ran so, and the line that is due stands on `err`.
+  -- It ran so, and the lines of its events, where they are asked for, and the line that is due stand on
+  -- `err`.
   pub record IsTold (ran : Ran) : Type 0 where
-    pub runs : Runs ran
-    pub line : Gains s.err (line_of run ran)
+    pub lines : Bytes
+    pub runs : Runs ran lines
+    pub told : Gains s.err (lines ++ line_of run ran)
 
   -- It ran somehow, that is told, and the call ended by how it did.
   pub record EndsAsRun (ends : Status) : Type 0 where

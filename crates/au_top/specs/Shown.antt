@@ -1,10 +1,10 @@
 -- What is seen of a run, by what its program means.
-use Rattle.std.specs.Prelude.{ℕ, true, false, List, []}
+use Rattle.std.specs.Prelude.{ℕ, true, false, List, [], ◌++◌}
 use Rattle.au_base.specs.declared.statuses.Status.{Status}
 use Rattle.au_base.specs.declared.statuses.Status.TheVariants as status
 use Rattle.au_syntax.specs.Plain.{Bytes}
 use Rattle.au_outcomes.specs.Lines.{abort_line, steps_line}
-use Rattle.au_running.specs.Ran.{CompletesAsMeant}
+use Rattle.au_running.specs.Ran.{CompletesAsMeant, LivesAsMeant}
 use Rattle.au_running.specs.declared.ran.Ran.{Ran}
 use Rattle.au_running.specs.declared.ran.Ran.TheVariants as how
 use Rattle.au_top.specs.Runs.{FromEntry, Run}
@@ -12,17 +12,37 @@ use Rattle.au_top.specs.Streams.{Gains, Streams}
 
 -- for a run, and the streams of the call
 module _ (run : Run) (s : Streams) where
-  -- The program ran whole as code, this is answered of the run, and it shows what the program means.
-  abbrev pub ShowsMeaning : Ran → Type 0
-  ShowsMeaning ran =
-      FromEntry run (λ program noted owner name. CompletesAsMeant program noted owner name ran run.steps
-      s.input.old s.input.new s.out.old s.out.new)
+  -- The program ran whole as code, this is answered of the run, and it shows what the program means. The lines
+  -- of its events, where they are asked for, and this line stand on `err`.
+  pub record ShowsMeaning (ran : Ran) (line : Bytes) : Type 0 where
+    pub lines : Bytes
+    pub runs :
+        FromEntry run (λ program noted owner name. CompletesAsMeant program noted owner name run.life ran
+        lines run.steps s.input.old s.input.new s.out.old s.out.new)
+    pub told : Gains s.err (lines ++ line)
 
   -- What a status of a call says of the run: it returned success or failure, aborted for the cause that its
   -- line tells, or spent its steps, of which its line tells the number.
   abbrev pub IsAsMeant : Status → Type 0
-  IsAsMeant status.Success = ShowsMeaning (how.Exit true) × Gains s.err []
-  IsAsMeant status.Failure = ShowsMeaning (how.Exit false) × Gains s.err []
-  IsAsMeant status.Abort = (words : Bytes) × ShowsMeaning (how.Abort words) × Gains s.err (abort_line words)
-  IsAsMeant status.Steps = ShowsMeaning how.Steps × Gains s.err (steps_line run.steps)
+  IsAsMeant status.Success = ShowsMeaning (how.Exit true) []
+  IsAsMeant status.Failure = ShowsMeaning (how.Exit false) []
+  IsAsMeant status.Abort = (words : Bytes) × ShowsMeaning (how.Abort words) (abort_line words)
+  IsAsMeant status.Steps = ShowsMeaning how.Steps (steps_line run.steps)
   IsAsMeant other = Unit {0}
+
+  -- This is answered of the run, and the lines of its events, which show what the program means, stand on
+  -- `err`, and behind them this line.
+  pub record ShowsLives (ran : Ran) (line : Bytes) : Type 0 where
+    pub lines : Bytes
+    pub lives :
+        FromEntry run (λ program noted owner name. LivesAsMeant program noted owner name ran lines run.steps
+        s.input.old)
+    pub told : Gains s.err (lines ++ line)
+
+  -- What a status of a call says of the events of the run, where they are asked for.
+  abbrev pub HasLives : Status → Type 0
+  HasLives status.Success = ShowsLives (how.Exit true) []
+  HasLives status.Failure = ShowsLives (how.Exit false) []
+  HasLives status.Abort = (words : Bytes) × ShowsLives (how.Abort words) (abort_line words)
+  HasLives status.Steps = ShowsLives how.Steps (steps_line run.steps)
+  HasLives other = Unit {0}

@@ -35,6 +35,8 @@ pub struct Asked {
     pub entry: Option<Entry>,
     /// How many steps a run may take.
     pub steps: u64,
+    /// Whether the events of a run are told.
+    pub life: bool,
 }
 
 /// Writes the text of the lives of the variables of a program, and ends with success.
@@ -81,7 +83,12 @@ pub fn answer<I: Source, O: Sink, E: Sink>(
         (λ due. HasStayed (source_of I.Source input.old input.new)) }
     ensures runs { IfRuns outcome.now (λ program. RunAnswers result
         (streams I.Source O.Sink E.Sink input.old input.new out.old out.new err.old err.new)
-        (record { named = asked.now.entry; steps = asked.now.steps; program = program })) }
+        (record {
+          named = asked.now.entry;
+          steps = asked.now.steps;
+          life = asked.now.life;
+          program = program;
+        })) }
 {
     match outcome {
         Outcome::NoJob => say(err, WORDS_LINE, Status::Words),

@@ -11,7 +11,7 @@ use au_words::{Command, Job};
 ///
 /// # Errors
 ///
-/// What the job asks for and that is not built yet: the command, or an option of a run.
+/// What the job asks for and that is not built yet: the command.
 pub fn asked_of(job: &Job) -> Result<Aim, Unbuilt>
     ensures { result ≡ asked.asked_of (task_of job.now) }
 {
@@ -19,16 +19,6 @@ pub fn asked_of(job: &Job) -> Result<Aim, Unbuilt>
         Command::Check => Ok(Aim::Check),
         Command::Explain => Ok(Aim::Explain),
         Command::Compile => Err(Unbuilt::Compile),
-        Command::Run => asked_of_run(job),
+        Command::Run => Ok(Aim::Run),
     }
-}
-
-/// That a program is run, or that lives are told meanwhile, which is not built yet.
-fn asked_of_run(job: &Job) -> Result<Aim, Unbuilt>
-    ensures { result ≡ asked.asked_of_run (task_of job.now) }
-{
-    if job.life {
-        return Err(Unbuilt::Life);
-    }
-    Ok(Aim::Run)
 }

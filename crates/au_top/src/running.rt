@@ -1,6 +1,6 @@
 //! Running a program, and what a call writes and how it ends by how the run ended.
 
-ghost use Rattle.std.specs.Prelude.{◌≡◌, [], Err, IfOk, IsTrue, OnOk};
+ghost use Rattle.std.specs.Prelude.{◌≡◌, ◌++◌, [], Err, IfOk, IsTrue, OnOk};
 ghost use Rattle.au_base.specs.Outside.{Adds, AddsFront, HasRisen};
 ghost use Rattle.au_modules.specs.Slots as slots;
 ghost use Rattle.au_outcomes.specs.Lines.{refusal_line};
@@ -18,11 +18,11 @@ use crate::saying::{AnswerFault, READ_FAULT_LINE, say};
 use au_base::{Entry, Memory, Sink, Source, Status};
 use au_noting_programs::NotedProgram;
 use au_outcomes::{Refusal, abort_line, limit_line, refusal_text, steps_line};
-use au_running::{Ran, run_program};
+use au_running::{Ran, Report, run_program};
 use std::alloc::Global;
 
-/// Runs a program from its entry, and writes the line that is due behind the run, if one is, on `err`. What
-/// it closes to must call no shipped function of boxes, buffers or the terminal.
+/// Runs a program from its entry, and writes on `err` the lines of its events, if these are asked for, and
+/// the line that is due behind the run, if one is. What it closes to must call no shipped function of boxes, buffers or the terminal.
 ///
 /// # Errors
 ///
@@ -42,15 +42,16 @@ pub fn run<I: Source, O: Sink, E: Sink>(
         (record {
           named = asked.now.entry;
           steps = asked.now.steps;
+          life = asked.now.life;
           program = slots.modules program.now;
         }) }
 {
     let entry = entry_for(alloc, &asked.entry, program)?;
-    let ran = run_program(alloc, program, &entry, asked.steps, input, out)?;
-    if is_cut(&ran) {
+    let report = run_program(alloc, program, &entry, asked.life, asked.steps, input, out)?;
+    if is_cut(&report.ran) {
         return Err(AnswerFault::Write);
     }
-    say_ran(alloc, entry, asked.steps, &ran, err)
+    say_ran(alloc, entry, asked.steps, report, err)
 }
 
 /// Whether what the program writes couldn't be written.
@@ -69,26 +70,39 @@ fn is_cut(ran: &Ran) -> bool
     }
 }
 
-/// Writes the line that is due behind a run on `err`, and ends as the run did.
+/// Writes what is told of a run on `err`, and ends as the run did.
 fn say_ran<E: Sink>(
     alloc: Global,
     entry: Entry,
     steps: u64,
-    ran: &Ran,
+    report: Report,
     err: &mut E,
 ) -> Result<Status, AnswerFault>
-    ensures ok { IfOk result (λ ends. ends ≡ runs.run_status ran.now) }
+    ensures ok { IfOk result (λ ends. ends ≡ runs.run_status report.ran) }
     ensures written { OnOk result (Adds (E.written err.old) (E.written err.new)
-        (runs.run_line entry steps ran.now)) }
+        (report.events.items ++ runs.run_line entry steps report.ran)) }
     ensures quiet { OnOk result (E.faults err.new ≡ E.faults err.old) }
     ensures front { result ≡ Err AnswerFault.Write
-        → AddsFront (E.written err.old) (E.written err.new) (runs.run_line entry steps ran.now) }
+        → AddsFront (E.written err.old) (E.written err.new)
+        (report.events.items ++ runs.run_line entry steps report.ran) }
     ensures risen { result ≡ Err AnswerFault.Write → HasRisen (E.faults err.old) (E.faults err.new) }
     ensures memory { result ≡ Err AnswerFault.Memory
         → (E.written err.new ≡ E.written err.old) × (E.faults err.new ≡ E.faults err.old) }
 {
-    let line = line_of(alloc, entry, steps, ran)?;
-    say(err, line.as_slice(), status_of(ran))
+    let status = status_of(&report.ran);
+    let text = text_of(alloc, entry, steps, report)?;
+    say(err, text.as_slice(), status)
+}
+
+/// What is told of a run: the lines of its events, and behind them the line that is due.
+fn text_of(alloc: Global, entry: Entry, steps: u64, report: Report) -> Result<Vec<u8>, Memory>
+    ensures { IfOk result (λ text. text.items
+        ≡ report.events.items ++ runs.run_line entry steps report.ran) }
+{
+    let line = line_of(alloc, entry, steps, &report.ran)?;
+    let mut text = report.events;
+    text.extend_from_slice(line.as_slice())?;
+    Ok(text)
 }
 
 /// The line that is due behind a run, or no byte where none is.

@@ -107,7 +107,7 @@ fn outcome_of<S: Shelf>(
     ensures arises { IfOk result (λ found. (files : Files) × AreTold (S.files shelf.old) files
         × Arises (map string_bytes words.now) files (map string_bytes found.0.files.items) found.1) }
     ensures asked { IfOk result (λ found. (task : Task) → IsJob (map string_bytes words.now) task
-        → (found.0.entry ≡ task.entry) × (found.0.steps ≡ task.steps)) }
+        → (found.0.entry ≡ task.entry) × (found.0.steps ≡ task.steps) × (found.0.life ≡ task.life)) }
     ensures faults { Counts (is_read_fault result) (S.faults shelf.old) (S.faults shelf.new) }
     ensures misses { IfOk result (λ found. Counts (is_missing found.1) (S.misses shelf.old)
         (S.misses shelf.new)) }
@@ -131,11 +131,13 @@ fn outcome_of<S: Shelf>(
     let names = job.files;
     let entry = job.entry;
     let steps = job.steps;
+    let life = job.life;
     let outcome = check(alloc, aim, shelf, names.as_slice())?;
     let asked = Asked {
         files: names,
         entry,
         steps,
+        life,
     };
     Ok((asked, outcome))
 }
@@ -145,11 +147,13 @@ fn said_by(job: Job) -> Asked
     ensures files { result.files ≡ job.files }
     ensures entry { result.entry ≡ job.entry }
     ensures steps { result.steps ≡ job.steps }
+    ensures life { result.life ≡ job.life }
 {
     Asked {
         files: job.files,
         entry: job.entry,
         steps: job.steps,
+        life: job.life,
     }
 }
 
@@ -159,5 +163,6 @@ fn nothing_asked(alloc: Global) -> Asked {
         files: Vec::new(alloc),
         entry: None,
         steps: 0,
+        life: false,
     }
 }

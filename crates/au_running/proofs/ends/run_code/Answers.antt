@@ -1,15 +1,19 @@
--- The machine is loaded with this code, and keeps no events.
-use Rattle.std.proofs.Common.{◌≡◌, Bool, false, ap, subst, sym, ◌∙◌}
+-- The machine is loaded with this code, and keeps its events where they are asked for.
+use Rattle.std.proofs.Common.{◌≡◌, ℕ, Bool, List, IfOk, ap, map, subst, sym, ◌∙◌}
 use Rattle.std.proofs.lemmas.Result.{IfOk-weaker, on_err_weaker}
 use Rattle.au_base.proofs.OutsideLemmas.{on_err}
+use Rattle.au_effects.specs.Worlds.{Deed}
 use Rattle.au_low.specs.Runs.{low_run}
 use Rattle.au_runs.specs.Calls.{IsCut, Rose, Says}
 use Rattle.au_runs.specs.Loaded.{Loaded}
-use Rattle.au_running.specs.Came.{CodeEnds, ran_of}
+use Rattle.au_running.specs.Came.{is_told, ran_of}
+use Rattle.au_running.specs.Lines.{told_lines}
 use Rattle.au_running.specs.Ran.{is_read_fault, is_write_fault}
-use Rattle.au_running.specs.declared.ran.Ran.{Ran}
-use Rattle.au_running.proofs.AnswerLemmas.{abort_cut, abort_quiet, read_told, said_came, write_told}
+use Rattle.au_running.specs.declared.ran.Report.{Report}
+use Rattle.au_running.proofs.AnswerLemmas.{read_told, report_came, said_cut, told_quiet, told_still}
+use Rattle.au_running.proofs.AnswerLemmas.{write_told}
 use Rattle.au_running.proofs.FrontLemmas.{unbegun_cut}
+use Rattle.au_running.proofs.MutedLemmas.{cut_muted}
 use Rattle.au_running.proofs.ends.run_code.Goals as goal
 
 pub returns-in_err-machine-clause-cut : goal.returns-in_err-machine-clause-cut
@@ -21,9 +25,19 @@ returns-in_err-machine-clause-cut g c =
 pub returns-in_err-end-clause-cut : goal.returns-in_err-end-clause-cut
 returns-in_err-end-clause-cut g c =
     on_err c.from_residual-in_err-end.result
+    (cut_muted c.args.life c.args.code.now c.args.steps (g.I.Source.left c.args.input.now)
+    (g.O.Sink.written c.args.out.now) (g.O.Sink.written c.run.new.out)
     (subst (λ (m : Loaded). IsCut (low_run m.keeps m.code) c.args.steps (g.I.Source.left c.args.input.now)
     (g.O.Sink.written c.args.out.now) (g.O.Sink.written c.run.new.out)) c.in_ok-machine.ensures
-    c.in_err-end.ensures.cut)
+    c.in_err-end.ensures.cut))
+
+pub returns-in_err-end-clause-still : goal.returns-in_err-end-clause-still
+returns-in_err-end-clause-still g c =
+    on_err c.from_residual-in_err-end.result c.in_err-end.ensures.quiet.1
+
+pub returns-in_err-end-clause-quiet : goal.returns-in_err-end-clause-quiet
+returns-in_err-end-clause-quiet g c =
+    on_err c.from_residual-in_err-end.result (λ none. c.in_err-end.ensures.quiet.0)
 
 pub returns-clause-came : goal.returns-clause-came
 returns-clause-came g c =
@@ -34,13 +48,12 @@ returns-clause-came g c =
     let out = g.O.Sink.written c.args.out.now in
     let out' = g.O.Sink.written c.run.new.out in
     let events = c.run.new.self.events in
-    IfOk-weaker c.answer_of.result (λ ran. ran ≡ ran_of code ended)
-    (λ ran. CodeEnds code ran c.args.steps told left out out')
-    (λ ran is. subst (λ (ran : Ran). CodeEnds code ran c.args.steps told left out out') (sym is)
-    (said_came code ended c.args.steps told left out out' events
+    report_came c.report_of.result code c.args.life ended c.args.steps told left out out' events
     (subst (λ (m : Loaded). Says ended (low_run m.keeps m.code) c.args.steps told left out out' events)
-    c.in_ok-machine.ensures c.in_ok-end.ensures.says)))
-    c.answer_of.ensures.ran
+    c.in_ok-machine.ensures c.in_ok-end.ensures.says)
+    c.report_of.ensures.ran
+    (subst (λ (all : List (Deed ℕ)). IfOk c.report_of.result (λ (report : Report). report.events.items
+    ≡ told_lines (is_told c.args.life ended) code all)) c.events.ensures c.report_of.ensures.lines)
 
 pub returns-clause-read : goal.returns-clause-read
 returns-clause-read g c =
@@ -48,11 +61,11 @@ returns-clause-read g c =
     let ended = c.in_ok-end.end in
     let reads = g.I.Source.faults c.args.input.now in
     let reads' = g.I.Source.faults c.run.new.input in
-    IfOk-weaker c.answer_of.result (λ ran. ran ≡ ran_of code ended)
-    (λ ran. Rose (is_read_fault ran) reads reads')
-    (λ ran is. subst (λ (failed : Bool). Rose failed reads reads')
+    IfOk-weaker c.report_of.result (λ (report : Report). report.ran ≡ ran_of code ended)
+    (λ (report : Report). Rose (is_read_fault report.ran) reads reads')
+    (λ report is. subst (λ (failed : Bool). Rose failed reads reads')
     (read_told code ended ∙ ap is_read_fault (sym is)) c.in_ok-end.ensures.read)
-    c.answer_of.ensures.ran
+    c.report_of.ensures.ran
 
 pub returns-clause-written : goal.returns-clause-written
 returns-clause-written g c =
@@ -60,11 +73,11 @@ returns-clause-written g c =
     let ended = c.in_ok-end.end in
     let writes = g.O.Sink.faults c.args.out.now in
     let writes' = g.O.Sink.faults c.run.new.out in
-    IfOk-weaker c.answer_of.result (λ ran. ran ≡ ran_of code ended)
-    (λ ran. Rose (is_write_fault ran) writes writes')
-    (λ ran is. subst (λ (failed : Bool). Rose failed writes writes')
+    IfOk-weaker c.report_of.result (λ (report : Report). report.ran ≡ ran_of code ended)
+    (λ (report : Report). Rose (is_write_fault report.ran) writes writes')
+    (λ report is. subst (λ (failed : Bool). Rose failed writes writes')
     (write_told code ended ∙ ap is_write_fault (sym is)) c.in_ok-end.ensures.written)
-    c.answer_of.ensures.ran
+    c.report_of.ensures.ran
 
 pub returns-clause-cut : goal.returns-clause-cut
 returns-clause-cut g c =
@@ -74,17 +87,22 @@ returns-clause-cut g c =
     let out = g.O.Sink.written c.args.out.now in
     let out' = g.O.Sink.written c.run.new.out in
     let events = c.run.new.self.events in
-    let code = c.args.code.now in
-    on_err_weaker c.answer_of.result
-    (abort_cut ended (low_run false code) c.args.steps told left out out' events
+    on_err_weaker c.report_of.result
+    (λ needs. said_cut c.args.code.now c.args.life ended c.args.steps told left out out' events
     (subst (λ (m : Loaded). Says ended (low_run m.keeps m.code) c.args.steps told left out out' events)
     c.in_ok-machine.ensures c.in_ok-end.ensures.says))
-    c.answer_of.ensures.words
+    c.report_of.ensures.words
+
+pub returns-clause-still : goal.returns-clause-still
+returns-clause-still g c =
+    on_err_weaker c.report_of.result
+    (told_still c.args.life c.in_ok-end.end (g.O.Sink.faults c.args.out.now)
+    (g.O.Sink.faults c.run.new.out) c.in_ok-end.ensures.written)
+    c.report_of.ensures.words
 
 pub returns-clause-quiet : goal.returns-clause-quiet
 returns-clause-quiet g c =
-    on_err_weaker c.answer_of.result
-    (abort_quiet c.in_ok-end.end (g.I.Source.faults c.args.input.now) (g.I.Source.faults c.run.new.input)
-    (g.O.Sink.faults c.args.out.now) (g.O.Sink.faults c.run.new.out) c.in_ok-end.ensures.read
-    c.in_ok-end.ensures.written)
-    c.answer_of.ensures.words
+    on_err_weaker c.report_of.result
+    (told_quiet c.args.life c.in_ok-end.end (g.I.Source.faults c.args.input.now)
+    (g.I.Source.faults c.run.new.input) c.in_ok-end.ensures.read)
+    c.report_of.ensures.words

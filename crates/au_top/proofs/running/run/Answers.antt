@@ -17,50 +17,57 @@ returns-in_err-entry g c =
     let run : Run = record {
       named = c.args.asked.now.entry;
       steps = c.args.asked.now.steps;
+      life = c.args.asked.now.life;
       program = slots.modules c.args.program.now;
     } in
     let s : Streams = streams g.I.Source g.O.Sink g.E.Sink c.args.input.now c.args.input.now c.args.out.now
     c.args.out.now c.args.err.now c.args.err.now in
     rw (p.1, p.2) (idle_stopped run s refl (refl, refl) refl)
 
-pub returns-in_err-ran : goal.returns-in_err-ran
-returns-in_err-ran g c =
-    let p = err_from_is_err_and c.from_residual-in_err-ran.result c.from_residual-in_err-ran.ensures.1 in
+pub returns-in_err-report : goal.returns-in_err-report
+returns-in_err-report g c =
+    let p = err_from_is_err_and c.from_residual-in_err-report.result c.from_residual-in_err-report.ensures.1 in
     let run : Run = record {
       named = c.args.asked.now.entry;
       steps = c.args.asked.now.steps;
+      life = c.args.asked.now.life;
       program = slots.modules c.args.program.now;
     } in
     let s : Streams = streams g.I.Source g.O.Sink g.E.Sink c.args.input.now c.run_program.new.input
     c.args.out.now c.run_program.new.out c.args.err.now c.args.err.now in
     rw (p.1, p.2)
-    (run_stopped run s c.in_ok-entry.entry c.in_ok-entry.ensures c.in_err-ran.ensures.broken (refl, refl)
-    c.in_err-ran.ensures.quiet.1)
+    (run_stopped run s c.in_ok-entry.entry c.in_ok-entry.ensures c.in_err-report.ensures.broken (refl, refl)
+    c.in_err-report.ensures.still)
 
 pub returns-then-is_cut : goal.returns-then-is_cut
 returns-then-is_cut g c =
     let run : Run = record {
       named = c.args.asked.now.entry;
       steps = c.args.asked.now.steps;
+      life = c.args.asked.now.life;
       program = slots.modules c.args.program.now;
     } in
     let s : Streams = streams g.I.Source g.O.Sink g.E.Sink c.args.input.now c.run_program.new.input
     c.args.out.now c.run_program.new.out c.args.err.now c.args.err.now in
-    run_cut run s c.in_ok-ran.ran (sym c.is_cut.ensures ∙ c.if-is_cut.true)
-    (has_ran run s c.in_ok-entry.entry c.in_ok-ran.ran c.in_ok-entry.ensures c.in_ok-ran.ensures.ran)
-    c.in_ok-ran.ensures.written (refl, refl)
+    run_cut run s c.in_ok-report.report.ran c.in_ok-report.report.events.items (sym c.is_cut.ensures ∙ c.if-is_cut.true)
+    (has_ran run s c.in_ok-entry.entry c.in_ok-report.report.ran c.in_ok-report.report.events.items
+    c.in_ok-entry.ensures c.in_ok-report.ensures.ran)
+    c.in_ok-report.ensures.written (refl, refl)
 
 pub returns : goal.returns
 returns g c =
     let run : Run = record {
       named = c.args.asked.now.entry;
       steps = c.args.asked.now.steps;
+      life = c.args.asked.now.life;
       program = slots.modules c.args.program.now;
     } in
     let s : Streams = streams g.I.Source g.O.Sink g.E.Sink c.args.input.now c.run_program.new.input
     c.args.out.now c.run_program.new.out c.args.err.now c.say_ran.new.err in
-    run_said run s c.say_ran.result c.in_ok-entry.entry c.in_ok-ran.ran c.in_ok-entry.ensures
+    run_said run s c.say_ran.result c.in_ok-entry.entry c.in_ok-report.report.ran
+    c.in_ok-report.report.events.items c.in_ok-entry.ensures
     (sym c.is_cut.ensures ∙ c.if-is_cut.false)
-    (has_ran run s c.in_ok-entry.entry c.in_ok-ran.ran c.in_ok-entry.ensures c.in_ok-ran.ensures.ran)
-    c.in_ok-ran.ensures.read c.in_ok-ran.ensures.written c.say_ran.ensures.ok c.say_ran.ensures.written
+    (has_ran run s c.in_ok-entry.entry c.in_ok-report.report.ran c.in_ok-report.report.events.items
+    c.in_ok-entry.ensures c.in_ok-report.ensures.ran)
+    c.in_ok-report.ensures.read c.in_ok-report.ensures.written c.say_ran.ensures.ok c.say_ran.ensures.written
     c.say_ran.ensures.quiet c.say_ran.ensures.front c.say_ran.ensures.risen c.say_ran.ensures.memory

@@ -28,7 +28,7 @@ returns-in-Ok-clause-ends g c =
     (streams g.I.Source g.O.Sink g.E.Sink c.args.input.now c.answer.new.input c.args.out.now c.answer.new.out
     c.args.err.now c.answer.new.err)
     c.answer.result
-    (map string_bytes c.in-Ok.asked.files.items) c.in-Ok.outcome c.in-Ok.asked.entry c.in-Ok.asked.steps
+    (map string_bytes c.in-Ok.asked.files.items) c.in-Ok.outcome c.in-Ok.asked.entry c.in-Ok.asked.steps c.in-Ok.asked.life
     c.in-Ok.ensures.arises c.in-Ok.ensures.asked c.in-Ok.ensures.faults c.in-Ok.ensures.misses
     c.answer.ensures.pays c.answer.ensures.quiet c.answer.ensures.fails c.answer.ensures.kept
     c.answer.ensures.runs

@@ -34,7 +34,8 @@ returns-in-Err-clause-arises g c =
 pub returns-in-Err-clause-asked : goal.returns-in-Err-clause-asked
 returns-in-Err-clause-asked g c = λ task job.
     said_task (map string_bytes c.args.words.now) c.in-Ok.job task c.said_by.result.entry
-    c.said_by.result.steps c.in-Ok.ensures.job job c.said_by.ensures.entry c.said_by.ensures.steps
+    c.said_by.result.steps c.said_by.result.life c.in-Ok.ensures.job job c.said_by.ensures.entry
+    c.said_by.ensures.steps c.said_by.ensures.life
 
 pub returns-clause-arises : goal.returns-clause-arises
 returns-clause-arises g c =
@@ -52,7 +53,7 @@ returns-clause-arises g c =
 pub returns-clause-asked : goal.returns-clause-asked
 returns-clause-asked g c = λ task job.
     said_task (map string_bytes c.args.words.now) c.in-Ok.job task c.in-Ok.job.entry c.in-Ok.job.steps
-    c.in-Ok.ensures.job job refl refl
+    c.in-Ok.job.life c.in-Ok.ensures.job job refl refl refl
 
 pub returns-clause-idle : goal.returns-clause-idle
 returns-clause-idle g c = λ idle. absurd (asks_files (map string_bytes c.args.words.now)
