@@ -8,7 +8,6 @@ mod RowLemmas
 mod FollowedLemmas
 mod RunLemmas
 mod FollowLemmas
-mod LeadLemmas
 pub mod FrontLemmas
 pub mod AnswerLemmas
 pub mod ShownLemmas

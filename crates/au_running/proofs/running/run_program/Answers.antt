@@ -27,8 +27,7 @@ returns-in-Ok-clause-ran g c =
     (λ ran came. (
       has.0,
       has.1,
-      came_so program has.0 owner name c.lowered_programs_run.ensures
-          (c.requires has.0 has.1) c.in-Ok.code has.2 ran
+      came_so program has.0 owner name c.lowered_programs_run.ensures c.in-Ok.code has.2 ran
           c.args.steps told left out out' came,
     ))
     c.run_code.ensures.came
@@ -49,8 +48,7 @@ returns-in-Ok-clause-broken g c =
     (λ cut. inr (
       has.0,
       has.1,
-      cut_so program has.0 owner name c.lowered_programs_run.ensures
-          (c.requires has.0 has.1) c.in-Ok.code has.2
+      cut_so program has.0 owner name c.lowered_programs_run.ensures c.in-Ok.code has.2
           c.args.steps told out out' cut,
     ))
     c.run_code.ensures.cut
