@@ -1,10 +1,12 @@
 -- What a shipped call comes to on both sides: the meaning has no rule for it, or both are pictures of one answer.
-use Rattle.std.proofs.Common.{◌≡◌, ◌⊎◌, inl, inr, ℕ, List, [], ◌∷◌, length, Option, Some, None, refl, sym, ap, ap₂, subst}
+use Rattle.std.proofs.Common.{◌≡◌, ◌⊎◌, inl, inr, ℕ, List, [], ◌∷◌, length, Option, Some, None, refl, sym, ap}
+use Rattle.std.proofs.Common.{ap₂, subst}
 use Rattle.std.proofs.Common.{◌∙◌, slice_get}
 use Rattle.std.specs.Prelude.{option_map}
 use Rattle.au_type_texts.specs.Types.{ClosedType}
 use Rattle.au_effects.specs.Answers.{Answer, gives, none}
-use Rattle.au_effects.specs.Calls.{given, untyped, of_none, of_one, of_two, of_three, use_of, buffer_use, buffer_in}
+use Rattle.au_effects.specs.Calls.{given, untyped, of_none, of_one, of_two, of_three, use_of, buffer_use}
+use Rattle.au_effects.specs.Calls.{buffer_in}
 use Rattle.au_effects.specs.Calls.{elements_in}
 use Rattle.au_effects.specs.Parts.{along}
 use Rattle.au_effects.specs.Places.{at}
@@ -15,7 +17,8 @@ use Rattle.au_low.specs.Machines.{Low, LowWorld}
 use Rattle.au_meaning.specs.Worlds.{Value, Store}
 use Rattle.au_syntax.specs.Plain.{Bytes}
 use Rattle.au_lowered.specs.Maps.{world_to, answer_to}
-use Rattle.au_lowered.specs.Sides.{as_meant, as_ran, place_slotted, Coding, Word, Both, Named, Slotted, meant, ran}
+use Rattle.au_lowered.specs.Sides.{as_meant, as_ran, place_slotted, Coding, Word, Both, Named, Slotted, meant}
+use Rattle.au_lowered.specs.Sides.{ran}
 use Rattle.au_lowered.specs.Sides.{all_meant, all_ran}
 use Rattle.au_lowered.proofs.DeedLemmas.{tells_to, elements_to}
 use Rattle.au_lowered.proofs.MapLemmas.{buffer_in_to}
@@ -58,7 +61,8 @@ module _ (by : Coding) (upper : List Named) (lower : List Slotted) where
   pub comes_given : (v : Both by) (w : effects.World (Word by) ClosedType) (x : Value) (y : Low) (m : Store)
       (n : LowWorld) → x ≡ meant by v → y ≡ ran by v → m ≡ above w → n ≡ under w → Comes (gives x m) (gives y n)
   comes_given v w x y m n x_is y_is m_is n_is =
-      comes_so (gives v w) (gives x m) (gives y n) (ap₂ (λ a b. gives a b) x_is m_is) (ap₂ (λ a b. gives a b) y_is n_is)
+      comes_so (gives v w) (gives x m) (gives y n) (ap₂ (λ a b. gives a b) x_is m_is)
+      (ap₂ (λ a b. gives a b) y_is n_is)
 
   -- ---- what needs something
 
@@ -103,7 +107,8 @@ module _ (by : Coding) (upper : List Named) (lower : List Slotted) where
       (meant_reference by a ∙ unchanged (reference_in a)) (ran_reference by a) (λ one. at_place one (finds one.1))
     where
       at_place : (one : ℕ × Place) → (at one.1 (above w) ≡ None) ⊎ FoundAt w one.1
-          → Comes (given (at one.1 (above w)) (λ held. go one.0 one.1 held)) (given (at (place_slotted by.slot one.1)
+          → Comes (given (at one.1 (above w)) (λ held. go one.0 one.1 held))
+          (given (at (place_slotted by.slot one.1)
           (under w)) (λ held. also one.0 (place_slotted by.slot one.1) held))
       at_place one (inl missing) = inl (ap (λ o. given o (λ held. go one.0 one.1 held)) missing)
       at_place one (inr found) =
@@ -112,7 +117,8 @@ module _ (by : Coding) (upper : List Named) (lower : List Slotted) where
 
   -- a buffer behind a reference
   pub buffer_alike : (a : Both by) (w : effects.World (Word by) ClosedType)
-      (go : ℕ → List Value → Store → Answer Bytes ClosedType) (also : ℕ → List Low → LowWorld → Answer ℕ ℕ) → Finds w
+      (go : ℕ → List Value → Store → Answer Bytes ClosedType) (also : ℕ → List Low → LowWorld → Answer ℕ ℕ) →
+      Finds w
       → ((id : ℕ) (values : List (Both by)) (told : effects.World (Word by) ClosedType)
       → Comes (go id (all_meant by values) (above told)) (also id (all_ran by values) (under told)))
       → Comes (buffer_use (meant by a) (above w) go) (buffer_use (ran by a) (under w) also)
@@ -127,10 +133,12 @@ module _ (by : Coding) (upper : List Named) (lower : List Slotted) where
           → Comes (go id (all_meant by values) (effects.tells (effects.used borrow) (above w)))
           (also id (all_ran by values) (effects.tells (effects.used borrow) (under w)))
       told borrow id values =
-          subst (λ m. Comes (go id (all_meant by values) m) (also id (all_ran by values) (effects.tells (effects.used
+          subst (λ m. Comes (go id (all_meant by values) m)
+          (also id (all_ran by values) (effects.tells (effects.used
           borrow) (under w))))
           (sym (tells_to (as_meant by) (λ (t : ClosedType). t) upper (effects.used borrow) w))
-          (subst (λ n. Comes (go id (all_meant by values) (above (effects.tells (effects.used borrow) w))) (also id
+          (subst (λ n. Comes (go id (all_meant by values) (above (effects.tells (effects.used borrow) w)))
+          (also id
           (all_ran by values) n)) (sym (tells_to (as_ran by) by.of lower (effects.used borrow) w))
           (h id values (effects.tells (effects.used borrow) w)))
 
@@ -179,6 +187,7 @@ module _ (by : Coding) (upper : List Named) (lower : List Slotted) where
 
   -- a call in which nothing is born
   pub untyped_fits : (born : Option ClosedType) (count : ℕ) (args : List (Both by)) (x : Answer Bytes ClosedType)
-      (y : Answer ℕ ℕ) → Fits count args x y → Fits count args (untyped born x) (untyped (option_map by.of born) y)
+      (y : Answer ℕ ℕ) → Fits count args x y →
+      Fits count args (untyped born x) (untyped (option_map by.of born) y)
   untyped_fits None count args x y h = h
   untyped_fits (Some of) count args x y h = inl refl

@@ -1,5 +1,6 @@
 -- The instruction of a shipped call does what the call comes to, also where it waits for a byte of the input.
-use Rattle.std.proofs.Common.{◌≡◌, ◌⊎◌, inl, inr, ℕ, suc, ◌+◌, true, List, [], ◌∷◌, ◌++◌, length, reverse, Option, Some}
+use Rattle.std.proofs.Common.{◌≡◌, ◌⊎◌, inl, inr, ℕ, suc, ◌+◌, true, List, [], ◌∷◌, ◌++◌, length, reverse}
+use Rattle.std.proofs.Common.{Option, Some}
 use Rattle.std.proofs.Common.{None, refl, sym, ap, subst, ◌∙◌, arith}
 use Rattle.std.specs.Prelude.{option_map}
 use Rattle.au_type_texts.specs.Types.{ClosedType}
@@ -8,7 +9,6 @@ use Rattle.au_effects.specs.Calls.{arity, shipped, of_one, byte_read}
 use Rattle.au_effects.specs.Parts.{along, part}
 use Rattle.au_effects.specs.Places.{at as held_at, base_at}
 use Rattle.au_effects.specs.Values as values
-use Rattle.au_effects.specs.Values.{Place}
 use Rattle.au_low.specs.declared.instructions.Instr.TheVariants as instr
 use Rattle.au_low.specs.Instructions as low
 use Rattle.au_low.specs.Instructions.{act, is_type, text_bytes}
@@ -22,9 +22,10 @@ use Rattle.au_shipped.specs.declared.prims.ShippedCall.{ShippedCall}
 use Rattle.au_lowered.specs.Frames.{Frame, Wide, Agree, machine, spot, world}
 use Rattle.au_lowered.specs.Runs.{at, reached, Leads}
 use Rattle.au_lowered.specs.Scopes.{Entry, Distinct}
-use Rattle.au_lowered.specs.Sides.{as_meant, as_ran, lower, Coding, Word, Both, Names, Slots, Common, Spot, meant, ran}
+use Rattle.au_lowered.specs.Sides.{as_meant, as_ran, lower, Coding, Word, Both, Names, Slots, Common, Spot}
+use Rattle.au_lowered.specs.Sides.{meant, ran}
 use Rattle.au_lowered.specs.Sides.{all_meant, all_ran, Named, Slotted}
-use Rattle.au_lowered.proofs.AlikeLemmas.{meant_answer, ran_answer, Alike, Comes, Fits, Finds, FoundAt}
+use Rattle.au_lowered.proofs.AlikeLemmas.{meant_answer, ran_answer, Comes, Fits, Finds, FoundAt}
 use Rattle.au_lowered.proofs.CallLemmas.{popped_all}
 use Rattle.au_lowered.proofs.LeadLemmas.{leads_to, leads_tick, leads_spare, leads_heard}
 use Rattle.au_lowered.proofs.MapLemmas.{part_to}
@@ -43,11 +44,13 @@ rest_same (byte ∷ rest) = refl
 
 -- ---- what stands at a place
 
-module _ (by : Coding) (f : Frame by) (wide : Wide) (room : ℕ) (scope : List (Entry by)) (distinct : Distinct by scope)
+module _ (by : Coding) (f : Frame by) (wide : Wide) (room : ℕ) (scope : List (Entry by))
+    (distinct : Distinct by scope)
   where
     pub place_found : (names : Names) (slots : Slots) (c : Common by) → Agree by f wide room scope names slots
         → Finds by (names.below ++ names.own ∷ []) (slots.below ++ slots.own ∷ []) c.store
-    place_found names slots c ag place = by_base (base_there by f wide room scope distinct place.base names slots c ag)
+    place_found names slots c ag place =
+        by_base (base_there by f wide room scope distinct place.base names slots c ag)
       where
         Found : Type 0
         Found = FoundAt by (names.below ++ names.own ∷ []) (slots.below ++ slots.own ∷ []) c.store place
@@ -66,7 +69,8 @@ module _ (by : Coding) (f : Frame by) (wide : Wide) (room : ℕ) (scope : List (
                   ∙ part_to (as_ran by) place.path there.v ∙ ap (λ o. option_map (ran by) o) e;
             })
 
-        by_base : (base_at place.base (world by f names c).store ≡ None) ⊎ There by f wide room scope distinct place.base
+        by_base : (base_at place.base (world by f names c).store ≡ None) ⊎ There by f wide room scope distinct
+            place.base
             names slots c
             → (held_at place (world by f names c).store ≡ None) ⊎ Found
         by_base (inl missing) = inl (ap (λ o. along o (part place.path)) missing)
@@ -83,7 +87,8 @@ module _ (by : Coding) (f : Frame by) (Holds : Names → Slots → Type 0) where
   lower_of slots = slots.below ++ slots.own ∷ []
 
   -- where it waits for no byte, or has got it
-  answered_runs : (s : Spot) (p q l : ℕ) (next : Next) (r : Answer (Word by) ClosedType) (before ops : List (Both by))
+  answered_runs : (s : Spot) (p q l : ℕ) (next : Next) (r : Answer (Word by) ClosedType)
+      (before ops : List (Both by))
       (names : Names) (slots : Slots) (c : Common by)
       → q ≡ p + 1 → Holds names slots
       → next ≡ low.answered (ran_answer by (upper_of names) (lower_of slots) r) (machine by f p ops slots c)
@@ -106,7 +111,8 @@ module _ (by : Coding) (f : Frame by) (Holds : Names → Slots → Type 0) where
   answered_runs s p q l next (aborts why store) before ops names slots c end h e lead =
       let new = record c { store = store } in
       let there = ap (λ n. reached (spot by f p before slots c) n) e
-      ∙ abort_reach by f why (machine by f p ops slots new) names new (spot by f p before slots c) refl refl refl in
+      ∙ abort_reach by f why (machine by f p ops slots new) names new (spot by f p before slots c) refl refl
+      refl in
       record { follows = leads_spare by.code (omega arith) (leads_to by.code there lead) }
   answered_runs s p q l next none before ops names slots c end h e lead = sim_stuck by f
 
@@ -116,7 +122,8 @@ module _ (by : Coding) (f : Frame by) (Holds : Names → Slots → Type 0) where
       (holds : Holds names slots) (many : length vs ≡ arity call)
       (in_order : ordered_if order (all_ran by vs) ≡ Some (all_ran by args)) where
     -- where it waits
-    heard_runs : act by.code (instr.Shipped call of order) (machine by f p (reverse vs ++ ops) slots c) ≡ machines.waits
+    heard_runs : act by.code (instr.Shipped call of order) (machine by f p (reverse vs ++ ops) slots c)
+        ≡ machines.waits
         → Comes by (upper_of names) (lower_of slots)
         (of_one (byte_read (next_byte c.left) (world by f names c).store) (all_meant by args))
         (of_one (byte_read (next_byte c.left) (machine by f p ops slots c).world) (all_ran by args))
@@ -137,16 +144,20 @@ module _ (by : Coding) (f : Frame by) (Holds : Names → Slots → Type 0) where
             ≡ low.answered (of_one (byte_read (next_byte c.left) m.world) (all_ran by args)) m
         heard_is =
             ap (λ o. low_runs.heard_if by.code (byte_taken c.left) o s.machine) is
-            ∙ popped_all by f (arity call) p vs ops slots c (λ values m. having (ordered_if order values) (λ values.
+            ∙ popped_all by f (arity call) p vs ops slots c
+            (λ values m. having (ordered_if order values) (λ values.
             low.answered (of_one (byte_read (byte_taken c.left) m.world) values) m)) many
-            ∙ ap (λ o. having o (λ values. low.answered (of_one (byte_read (byte_taken c.left) m.world) values) m))
+            ∙ ap (λ o. having o (λ values. low.answered
+            (of_one (byte_read (byte_taken c.left) m.world) values) m))
             in_order
             ∙ ap (λ byte. low.answered (of_one (byte_read byte m.world) (all_ran by args)) m) (byte_same c.left)
 
-        lead : Leads by.code s (suc l) (reached (spot by f p (reverse vs ++ ops) slots new) (low_runs.heard by.code
+        lead : Leads by.code s (suc l)
+            (reached (spot by f p (reverse vs ++ ops) slots new) (low_runs.heard by.code
             (byte_taken c.left) s.machine)) l 7
         lead =
-            leads_to by.code (ap (λ rest. reached (record s { left = rest }) (low_runs.heard by.code (byte_taken c.left)
+            leads_to by.code (ap (λ rest. reached (record s { left = rest })
+            (low_runs.heard by.code (byte_taken c.left)
             s.machine)) (rest_same c.left)) (leads_heard by.code s (instr.Shipped call of order) l is waiting)
 
         by_answer : Comes by (upper_of names) (lower_of slots)
@@ -154,7 +165,8 @@ module _ (by : Coding) (f : Frame by) (Holds : Names → Slots → Type 0) where
             (of_one (byte_read (next_byte c.left) m.world) (all_ran by args))
             → Pushes by f Holds q ops 6 s (suc l) (acts.heard (all_meant by args) (world by f names c) l)
         by_answer (inl missing) =
-            subst (λ r. Pushes by f Holds q ops 6 s (suc l) (acts.answered r (world by f names new) l)) (sym missing)
+            subst (λ r. Pushes by f Holds q ops 6 s (suc l) (acts.answered r (world by f names new) l))
+            (sym missing)
             (sim_stuck by f)
         by_answer (inr alike) =
             subst (λ r. Pushes by f Holds q ops 6 s (suc l) (acts.answered r (world by f names new) l))
@@ -170,7 +182,8 @@ module _ (by : Coding) (f : Frame by) (Holds : Names → Slots → Type 0) where
         (of_one (byte_read (next_byte c.left) (world by f names c).store) (all_meant by args))
         (of_one (byte_read (next_byte c.left) (machine by f p ops slots c).world) (all_ran by args))
         → Pushes by f Holds q ops 6 (spot by f p (reverse vs ++ ops) slots c) (suc l)
-        (acts.told (all_meant by args) (meant_answer by (upper_of names) (lower_of slots) r) (world by f names c) l)
+        (acts.told (all_meant by args) (meant_answer by (upper_of names) (lower_of slots) r)
+        (world by f names c) l)
     told_runs (gives v store) e comes =
         answered_runs _ p q l _ (gives v store) (reverse vs ++ ops) ops names slots c end holds e
         (leads_tick by.code _ (instr.Shipped call of order) l is)
@@ -190,15 +203,19 @@ module _ (by : Coding) (f : Frame by) (Holds : Names → Slots → Type 0) where
     unfolding act
     acted =
         let m = machine by f p ops slots c in
-        ap (λ b. machines.where_true b (low.shipped_arguments call order (machine by f p (reverse vs ++ ops) slots c) (λ
+        ap (λ b. machines.where_true b
+        (low.shipped_arguments call order (machine by f p (reverse vs ++ ops) slots c) (λ
         values m. low.answered (shipped (text_bytes by.code) call of m.world values) m))) typed
         ∙ popped_all by f (arity call) p vs ops slots c (λ values m. having (ordered_if order values) (λ values.
         low.answered (shipped (text_bytes by.code) call of m.world values) m)) many
-        ∙ ap (λ o. having o (λ values. low.answered (shipped (text_bytes by.code) call of m.world values) m)) in_order
+        ∙ ap (λ o. having o (λ values. low.answered (shipped (text_bytes by.code) call of m.world values) m))
+        in_order
 
-  pub shipped_runs : (call : ShippedCall) (born : Option ClosedType) (order : List ℕ) (p q l : ℕ) (vs args ops : List
+  pub shipped_runs : (call : ShippedCall) (born : Option ClosedType) (order : List ℕ) (p q l : ℕ)
+      (vs args ops : List
       (Both by)) (names : Names) (slots : Slots) (c : Common by)
-      → Is by f p (instr.Shipped call (option_map by.of born) order) → is_type by.code (option_map by.of born) ≡ true
+      → Is by f p (instr.Shipped call (option_map by.of born) order) → is_type by.code (option_map by.of born)
+      ≡ true
       → q ≡ p + 1 → Holds names slots → length vs ≡ length args
       → ordered_if order (all_ran by vs) ≡ Some (all_ran by args)
       → Fits by (upper_of names) (lower_of slots) (arity call) args
@@ -208,16 +225,20 @@ module _ (by : Coding) (f : Frame by) (Holds : Names → Slots → Type 0) where
       (of_one (byte_read (next_byte c.left) (world by f names c).store) (all_meant by args))
       (of_one (byte_read (next_byte c.left) (lower by (lower_of slots) c)) (all_ran by args))
       → Pushes by f Holds q ops 6 (spot by f p (reverse vs ++ ops) slots c) (suc l)
-      (acts.told (all_meant by args) (shipped (λ text. text) call born (world by f names c).store (all_meant by args))
+      (acts.told (all_meant by args)
+      (shipped (λ text. text) call born (world by f names c).store (all_meant by args))
       (world by f names c) l)
-  shipped_runs call born order p q l vs args ops names slots c is typed end holds many in_order (inl missing) comes =
-      subst (λ r. Pushes by f Holds q ops 6 (spot by f p (reverse vs ++ ops) slots c) (suc l) (acts.told (all_meant by
+  shipped_runs call born order p q l vs args ops names slots c is typed end holds many in_order (inl missing)
+      comes =
+      subst (λ r. Pushes by f Holds q ops 6 (spot by f p (reverse vs ++ ops) slots c) (suc l)
+      (acts.told (all_meant by
       args) r (world by f names c) l)) (sym missing) (sim_stuck by f)
   shipped_runs call born order p q l vs args ops names slots c is typed end holds many in_order (inr fits) comes =
       let of = option_map by.of born in
       let count : length vs ≡ arity call = many ∙ fits.0 in
       let m = machine by f p ops slots c in
-      subst (λ r. Pushes by f Holds q ops 6 (spot by f p (reverse vs ++ ops) slots c) (suc l) (acts.told (all_meant by
+      subst (λ r. Pushes by f Holds q ops 6 (spot by f p (reverse vs ++ ops) slots c) (suc l)
+      (acts.told (all_meant by
       args) r (world by f names c) l)) (sym fits.1.in_meaning)
       (told_runs call of order p q l vs args ops names slots c is typed end holds count in_order fits.1.answer
       (acted call of order p q l vs args ops names slots c is typed end holds count in_order
