@@ -3,7 +3,6 @@ use Rattle.std.proofs.Common.{◌≡◌, ℕ, true, [], Some, None, refl, sym, a
 use Rattle.std.proofs.Common.{subst, ◌∙◌, true≢false}
 use Rattle.std.specs.Prelude.{slice_get}
 use Rattle.au_type_texts.specs.Types as closed_type
-use Rattle.au_type_texts.specs.Types.{ClosedType}
 use Rattle.au_closed_trees.specs.ClosedNotes.{Callee, ClosedNote, shipped}
 use Rattle.au_closed_meanings.specs.Shipped.{shipped_parameters}
 use Rattle.au_closed_meanings.specs.Closed.{surroundings_of}
