@@ -30,5 +30,3 @@ mod OnceLemmas
 mod OwnTypeLemmas
 mod AcceptedLemmas
 mod LeadLemmas
-mod BuiltLemmas
-mod PlainCallLemmas

@@ -1,10 +1,9 @@
 //! Laws of programs that are gathered of the shipped files and of parsed ones.
 
-ghost use Rattle.std.specs.Prelude.{◌≡◌, ◌∷◌, [], ℕ, Contains, List, None, Some, true};
+ghost use Rattle.std.specs.Prelude.{◌≡◌, ◌∷◌, [], ℕ, Contains, List, Some};
 ghost use Rattle.au_base.specs.Outside.{Files};
 ghost use Rattle.au_classes.specs.Good.{InstancesAreGood};
 ghost use Rattle.au_classes.specs.Rows.{rows_of};
-ghost use Rattle.au_closed_trees.specs.ClosedNotes.{shipped};
 ghost use Rattle.au_type_texts.specs.Types.{ClosedType};
 ghost use Rattle.au_closing.specs.Bodies.{BodyOf, body_of};
 ghost use Rattle.au_closing.specs.Closes.{calls_of};
@@ -34,15 +33,12 @@ ghost use Rattle.au_typing.specs.Written.{seen_at};
 ghost use Rattle.au_promises.specs.Fulfilled.{AllFulfil};
 ghost use Rattle.au_graphs.specs.Reached.{Reached};
 ghost use Rattle.au_rules.specs.Good.{AllDeclarationsAreGood};
-ghost use Rattle.au_shipped.specs.declared.prims.ShippedCall.{ShippedCall as CallSeen};
-ghost use Rattle.au_lowered.specs.Premises.{is_plain};
 ghost use Rattle.au_syntax.specs.Plain.{Bytes};
 ghost use Rattle.au_syntax.specs.declared.modules.Part.TheVariants.{Body};
 ghost use Rattle.au_types.specs.Tables as tables;
 ghost use Rattle.au_types.specs.declared.spaces.Space.TheVariants.{Callables};
 ghost use Rattle.au_types.specs.declared.types.DeclAt.{DeclAt};
 ghost use Rattle.au_typing.specs.Notes.{Note};
-ghost use Rattle.au_unbuilt.specs.Unbuilt.{unbuilt_of};
 
 /// The modules of accepted files are gathered of the shipped files and of files of the user's that were
 /// parsed.
@@ -149,22 +145,4 @@ pub fn calls_of_accepted_programs_lead_somewhere()
         → Contains (calls_listed body.block) call
         → IsSomewhere (program_modules reads) accepted.noted
         (call_leads (program_modules reads) body.place one.given call.0 call.1) }
-{}
-
-/// Where an accepted program has no place that holds what isn't built yet, each shipped call that a call in
-/// a body leads to has to do with no box, buffer or terminal, whatever is given for the type parameters of the
-/// body.
-pub fn calls_of_built_programs_are_plain()
-    ensures { (files : Files) (names all : List (List ℕ)) (reads : List ReadFile)
-        → AreAcceptedAs files names all reads
-        → unbuilt_of (program_modules reads) ≡ None
-        → (noted : List NotedParts)
-        → IsDerived (program_modules reads) noted
-        → (target : TargetSeen) (body : BodyOf)
-        → body_of (program_modules reads) noted target ≡ Some body
-        → (call : Call)
-        → Contains (calls_listed body.block) call
-        → (given : Given) (to : CallSeen)
-        → call_leads (program_modules reads) body.place given call.0 call.1 ≡ shipped to
-        → is_plain to ≡ true }
 {}

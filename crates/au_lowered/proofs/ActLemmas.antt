@@ -1,6 +1,7 @@
 -- What calls do with their arguments.
 use Rattle.std.proofs.Common.{◌≡◌, ℕ, zero, suc, ◌+◌, ◌≤◌, true, List, [], ◌∷◌, ◌++◌, length, reverse, Option}
-use Rattle.std.proofs.Common.{Some, None, refl, sym, ap, subst, ◌∙◌, arith, true≢false}
+use Rattle.std.proofs.Common.{Some, None, refl, sym, ap, subst, ◌∙◌, arith}
+use Rattle.std.specs.Prelude.{option_map}
 use Rattle.std.proofs.lemmas.List.{length-map}
 use Rattle.std.specs.List.{position_or_len}
 use Rattle.std.specs.Str.{bytes_eq}
@@ -11,9 +12,9 @@ use Rattle.au_effects.specs.Calls.{shipped}
 use Rattle.au_effects.specs.Numbers.{wrapped_around, converted_value}
 use Rattle.au_low.specs.declared.instructions.Instr.TheVariants as instr
 use Rattle.au_low.specs.Instructions as low
-use Rattle.au_low.specs.Instructions.{act}
+use Rattle.au_low.specs.Instructions.{act, is_type}
 use Rattle.au_low.specs.Machines.{Low, ordered, ordered_if, having}
-use Rattle.au_lowered.specs.Drafts.{Draft, plain, makes_case, Written, nothing, does}
+use Rattle.au_lowered.specs.Drafts.{Draft, plain, makes_case, ships_birth, Written, nothing, does}
 use Rattle.au_lowered.specs.Expressions as code
 use Rattle.au_lowered.specs.Standing.{Stands, PartsStandIn}
 use Rattle.au_lowered.proofs.StandLemmas.{parts_stand}
@@ -34,14 +35,13 @@ use Rattle.au_lowered.proofs.CallLemmas.{popped_all, make_runs}
 use Rattle.au_lowered.proofs.LeadLemmas.{leads_to}
 use Rattle.au_lowered.proofs.MapLemmas.{wrapped_to, converted_to}
 use Rattle.au_lowered.proofs.SimLemmas.{sim_spare, sim_stuck, sim_aim, sim_needing}
-use Rattle.au_lowered.proofs.StepLemmas.{comes_runs}
-use Rattle.au_lowered.specs.Premises.{GoodView, Placed, GoodCalls, Once, is_plain}
+use Rattle.au_lowered.proofs.StepLemmas.{Is, comes_runs}
+use Rattle.au_lowered.specs.Premises.{GoodView, Placed, GoodCalls, Once}
 use Rattle.au_lowered.specs.Rows.{value_aim, OnAll}
 use Rattle.au_lowered.proofs.OrderLemmas.{numbers_length, positions_ordered, position_found, labels_ordered}
 use Rattle.au_lowered.proofs.OrderLemmas.{declared_or_not}
-use Rattle.au_lowered.proofs.ShippedLemmas.{PlainCall, shipped_runs, print_text_plain, print_int_plain}
-use Rattle.au_lowered.proofs.ShippedLemmas.{print_bool_plain, print_line_text_plain, print_line_int_plain}
-use Rattle.au_lowered.proofs.ShippedLemmas.{print_line_bool_plain, surrender_plain, abort_plain, span_plain}
+use Rattle.au_lowered.proofs.ShippedLemmas.{keeps_frames, shipped_fits, heard_comes}
+use Rattle.au_lowered.proofs.ShippedRows.{place_found, shipped_runs}
 use Rattle.au_lowered.proofs.SwapLemmas.{swap_runs, swap_born_runs}
 
 module _ (by : Coding) (f : Frame by) (get : ℕ → Option Draft) (placed : Placed by f.function get)
@@ -129,136 +129,62 @@ module _ (by : Coding) (f : Frame by) (get : ℕ → Option Draft) (placed : Pla
   one_ordered (zero ∷ []) (v ∷ []) args a b e = grind arith
   one_ordered (suc i ∷ []) (v ∷ []) args a b e = absurd (grind arith)
 
-  -- a shipped call that is an instruction of its own
-  plain_run : (call : ShippedCall) (born : Option ClosedType) (order : List ℕ) (p q l : ℕ) (vs args ops :
+  -- a shipped call that writes no frame
+  own_runs : (call : ShippedCall) (born : Option ClosedType) (order : List ℕ) (p q l : ℕ) (vs args ops :
       List (Both by)) (names : Names) (slots : Slots) (c : Common by)
-      → PlainCall call → (born ≡ None → Stands get (does (instr.Shipped call None (code.unless_declared
-      order))) p q) → Held_so names slots
-      → length vs ≡ length order → length vs ≡ length args → ordered order (all_ran by vs)
-      ≡ Some (all_ran by args)
-      → Sim by f (value_aim by f get depth wide room scope q ops) 6 (spot by f p (reverse vs ++ ops) slots
-      c) (suc l)
-      (acts.told (all_meant by args) (shipped (λ text. text) call born (world by f names c).store (all_meant
-      by args)) (world by f names c) l)
-  plain_run call born order p q l vs args ops names slots c good stands ag many also e =
-      shipped_runs by f Held_so call born (code.unless_declared order) p q l vs args ops names slots c good
-      (λ is. let i = instr.Shipped call None (code.unless_declared order) in
-      let here = parts.of_one (plain i) p q (stands is) in (placed.has p (plain i) here.here, here.ends))
-      ag also (same_order order vs args many e)
+      → keeps_frames call ≡ true
+      → Is by f p (instr.Shipped call (option_map by.of born) order) → is_type by.code (option_map by.of born) ≡ true
+      → q ≡ p + 1 → Held_so names slots → length vs ≡ length args
+      → ordered_if order (all_ran by vs) ≡ Some (all_ran by args)
+      → Sim by f (value_aim by f get depth wide room scope q ops) 6 (spot by f p (reverse vs ++ ops) slots c) (suc l)
+      (acts.told (all_meant by args) (shipped (λ text. text) call born (world by f names c).store (all_meant by args))
+      (world by f names c) l)
+  own_runs call born order p q l vs args ops names slots c keeps is typed end ag many e =
+      let upper = names.below ++ names.own ∷ [] in
+      let lower = slots.below ++ slots.own ∷ [] in
+      let finds = place_found by f wide room scope distinct names slots c ag in
+      shipped_runs by f Held_so call born order p q l vs args ops names slots c is typed end ag many e
+      (shipped_fits by upper lower c.store finds call born args keeps)
+      (heard_comes by upper lower c.store finds (acts.next_byte c.left) args)
 
   -- a shipped call
   ships_run : (call : ShippedCall) (born : Option ClosedType) (order : List ℕ) (p q l : ℕ) (vs args ops :
       List (Both by)) (names : Names) (slots : Slots) (c : Common by)
-      → is_plain call ≡ true → Stands get (code.ships_call call born (code.unless_declared order)) p q
-      → Held_so names slots
+      → Stands get (code.ships_call call born (code.unless_declared order)) p q → Held_so names slots
       → length vs ≡ length order → length vs ≡ length args → ordered order (all_ran by vs)
       ≡ Some (all_ran by args)
       → Sim by f (value_aim by f get depth wide room scope q ops) 6 (spot by f p (reverse vs ++ ops) slots
       c) (suc l)
       (acts.ships_call call born (all_meant by args) (world by f names c) l)
-  ships_run prim.PrintText None order p q l vs args ops names slots c good stands ag many also e =
-      plain_run prim.PrintText None order p q l vs args ops names slots c print_text_plain (λ is. stands) ag
-      many also e
-  ships_run prim.PrintText (Some of) order p q l vs args ops names slots c good stands ag many also e =
-      plain_run prim.PrintText (Some of) order p q l vs args ops names slots c print_text_plain (λ is.
-      absurd (grind arith)) ag many also e
-  ships_run prim.PrintInt None order p q l vs args ops names slots c good stands ag many also e =
-      plain_run prim.PrintInt None order p q l vs args ops names slots c print_int_plain (λ is. stands) ag
-      many also e
-  ships_run prim.PrintInt (Some of) order p q l vs args ops names slots c good stands ag many also e =
-      plain_run prim.PrintInt (Some of) order p q l vs args ops names slots c print_int_plain (λ is. absurd
-      (grind arith)) ag many also e
-  ships_run prim.PrintBool None order p q l vs args ops names slots c good stands ag many also e =
-      plain_run prim.PrintBool None order p q l vs args ops names slots c print_bool_plain (λ is. stands) ag
-      many also e
-  ships_run prim.PrintBool (Some of) order p q l vs args ops names slots c good stands ag many also e =
-      plain_run prim.PrintBool (Some of) order p q l vs args ops names slots c print_bool_plain (λ is.
-      absurd (grind arith)) ag many also e
-  ships_run prim.PrintLnText None order p q l vs args ops names slots c good stands ag many also e =
-      plain_run prim.PrintLnText None order p q l vs args ops names slots c print_line_text_plain (λ is.
-      stands) ag many also e
-  ships_run prim.PrintLnText (Some of) order p q l vs args ops names slots c good stands ag many also e =
-      plain_run prim.PrintLnText (Some of) order p q l vs args ops names slots c print_line_text_plain (λ
-      is. absurd (grind arith)) ag many also e
-  ships_run prim.PrintLnInt None order p q l vs args ops names slots c good stands ag many also e =
-      plain_run prim.PrintLnInt None order p q l vs args ops names slots c print_line_int_plain (λ is.
-      stands) ag many also e
-  ships_run prim.PrintLnInt (Some of) order p q l vs args ops names slots c good stands ag many also e =
-      plain_run prim.PrintLnInt (Some of) order p q l vs args ops names slots c print_line_int_plain (λ is.
-      absurd (grind arith)) ag many also e
-  ships_run prim.PrintLnBool None order p q l vs args ops names slots c good stands ag many also e =
-      plain_run prim.PrintLnBool None order p q l vs args ops names slots c print_line_bool_plain (λ is.
-      stands) ag many also e
-  ships_run prim.PrintLnBool (Some of) order p q l vs args ops names slots c good stands ag many also e =
-      plain_run prim.PrintLnBool (Some of) order p q l vs args ops names slots c print_line_bool_plain (λ
-      is. absurd (grind arith)) ag many also e
-  ships_run prim.SurrenderRoot None order p q l vs args ops names slots c good stands ag many also e =
-      plain_run prim.SurrenderRoot None order p q l vs args ops names slots c surrender_plain (λ is. stands)
-      ag many also e
-  ships_run prim.SurrenderRoot (Some of) order p q l vs args ops names slots c good stands ag many also e =
-      plain_run prim.SurrenderRoot (Some of) order p q l vs args ops names slots c surrender_plain (λ is.
-      absurd (grind arith)) ag many also e
-  ships_run prim.Abort None order p q l vs args ops names slots c good stands ag many also e =
-      plain_run prim.Abort None order p q l vs args ops names slots c abort_plain (λ is. stands) ag many
-      also e
-  ships_run prim.Abort (Some of) order p q l vs args ops names slots c good stands ag many also e =
-      plain_run prim.Abort (Some of) order p q l vs args ops names slots c abort_plain (λ is. absurd (grind
-      arith)) ag many also e
-  ships_run prim.SpanLength None order p q l vs args ops names slots c good stands ag many also e =
-      plain_run prim.SpanLength None order p q l vs args ops names slots c span_plain (λ is. stands) ag many
-      also e
-  ships_run prim.SpanLength (Some of) order p q l vs args ops names slots c good stands ag many also e =
-      plain_run prim.SpanLength (Some of) order p q l vs args ops names slots c span_plain (λ is. absurd
-      (grind arith)) ag many also e
-  ships_run (prim.Wrap op kind) born order p q l vs args ops names slots c good stands ag many also e =
+  ships_run (prim.Wrap op kind) born order p q l vs args ops names slots c stands ag many also e =
       wrap_runs op kind (code.unless_declared order) p q l vs args ops names slots c stands ag also
       (same_order order vs args many e)
-  ships_run (prim.Convert kind) born order p q l vs [] ops names slots c good stands ag many also e =
-      sim_stuck by f
-  ships_run (prim.Convert kind) born order p q l vs (a ∷ []) ops names slots c good stands ag many also e =
+  ships_run (prim.Convert kind) born order p q l vs [] ops names slots c stands ag many also e = sim_stuck by f
+  ships_run (prim.Convert kind) born order p q l vs (a ∷ []) ops names slots c stands ag many also e =
       convert_runs kind p q l vs (a ∷ []) ops names slots c stands ag
       (one_ordered order (all_ran by vs) (all_ran by (a ∷ [])) (omega (arith, many, also)) (length-map vs
       (ran by) ∙ also) e) also
-  ships_run (prim.Convert kind) born order p q l vs (a ∷ b ∷ more) ops names slots c good stands ag many
-      also e = sim_stuck by f
-  ships_run prim.Swap None order p q l vs args ops names slots c good stands ag many also e =
+  ships_run (prim.Convert kind) born order p q l vs (a ∷ b ∷ more) ops names slots c stands ag many also e =
+      sim_stuck by f
+  ships_run prim.Swap None order p q l vs args ops names slots c stands ag many also e =
       let i = instr.Shipped prim.Swap None (code.unless_declared order) in
       let here = parts.of_one (plain i) p q stands in
       swap_runs by f get depth wide room scope distinct (code.unless_declared order) p q l vs args ops names slots c
       (placed.has p (plain i) here.here) here.ends ag also (same_order order vs args many e)
-  ships_run prim.Swap (Some of) order p q l vs args ops names slots c good stands ag many also e =
+  ships_run prim.Swap (Some of) order p q l vs args ops names slots c stands ag many also e =
       swap_born_runs by f get depth wide room scope distinct of q l args ops (spot by f p (reverse vs ++ ops) slots c)
       names c
-  ships_run prim.MakeBox born order p q l vs args ops names slots c good stands ag many also e = absurd
-      (true≢false (sym good))
-  ships_run prim.Unbox born order p q l vs args ops names slots c good stands ag many also e = absurd
-      (true≢false (sym good))
-  ships_run prim.BoxGet born order p q l vs args ops names slots c good stands ag many also e = absurd
-      (true≢false (sym good))
-  ships_run prim.BoxGetMut born order p q l vs args ops names slots c good stands ag many also e = absurd
-      (true≢false (sym good))
-  ships_run prim.MakeEmpty born order p q l vs args ops names slots c good stands ag many also e = absurd
-      (true≢false (sym good))
-  ships_run prim.DestroyEmpty born order p q l vs args ops names slots c good stands ag many also e = absurd
-      (true≢false (sym good))
-  ships_run prim.Length born order p q l vs args ops names slots c good stands ag many also e = absurd
-      (true≢false (sym good))
-  ships_run prim.InsertBack born order p q l vs args ops names slots c good stands ag many also e = absurd
-      (true≢false (sym good))
-  ships_run prim.RemoveBack born order p q l vs args ops names slots c good stands ag many also e = absurd
-      (true≢false (sym good))
-  ships_run prim.Nth born order p q l vs args ops names slots c good stands ag many also e = absurd
-      (true≢false (sym good))
-  ships_run prim.ReplaceNth born order p q l vs args ops names slots c good stands ag many also e = absurd
-      (true≢false (sym good))
-  ships_run prim.AcquireTerminal born order p q l vs args ops names slots c good stands ag many also e =
-      absurd (true≢false (sym good))
-  ships_run prim.ReadByte born order p q l vs args ops names slots c good stands ag many also e = absurd
-      (true≢false (sym good))
-  ships_run prim.WriteByte born order p q l vs args ops names slots c good stands ag many also e = absurd
-      (true≢false (sym good))
-  ships_run prim.ReleaseTerminal born order p q l vs args ops names slots c good stands ag many also e =
-      absurd (true≢false (sym good))
+  ships_run call None order p q l vs args ops names slots c stands ag many also e =
+      let i = instr.Shipped call None (code.unless_declared order) in
+      let here = parts.of_one (plain i) p q stands in
+      own_runs call None (code.unless_declared order) p q l vs args ops names slots c refl
+      (placed.has p (plain i) here.here) refl here.ends ag also (same_order order vs args many e)
+  ships_run call (Some of) order p q l vs args ops names slots c stands ag many also e =
+      let draft = ships_birth call of (code.unless_declared order) in
+      let here = parts.of_one draft p q stands in
+      own_runs call (Some of) (code.unless_declared order) p q l vs args ops names slots c refl
+      (placed.has p draft here.here) (placed.births p call of (code.unless_declared order) here.here) here.ends ag also
+      (same_order order vs args many e)
 
 module _ {T C : Type 0} (by : Coding) (see : View ℕ T C) (invoke : ℕ → List Value
     → Action Value) (depth : ℕ) (f : Frame by)
@@ -271,14 +197,13 @@ module _ {T C : Type 0} (by : Coding) (see : View ℕ T C) (invoke : ℕ → Lis
   -- what a call does, with arguments in declared order
   act_runs : (a : Act ℕ) (order : List ℕ) (p q l : ℕ) (vs args ops : List (Both by)) (names : Names) (slots
       : Slots) (c : Common by)
-      → ((call : ShippedCall) (born : Option ClosedType) → a ≡ ships call born → is_plain call ≡ true)
       → Stands get (code.acts a order) p q → Agree by f wide room scope names slots → suc l ≤ depth
       → length vs ≡ length order → length vs ≡ length args → ordered order (all_ran by vs)
       ≡ Some (all_ran by args)
       → Sim by f (value_aim by f get depth wide room scope q ops) 6 (spot by f p (reverse vs ++ ops) slots
       c) (suc l)
       (meaning.acts see invoke a (all_meant by args) (world by f names c) l)
-  act_runs (invokes i) order p q l vs args ops names slots c plain_ones stands ag le many also e =
+  act_runs (invokes i) order p q l vs args ops names slots c stands ag le many also e =
       let here = parts_of.of_one (plain (instr.Call i order)) p q stands in
       sim_aim by f
       (aim_at (meant by) (λ (v : Both by) (n : Names) (s : Slots). Agree by f wide room scope n s) (λ (v :
@@ -290,7 +215,7 @@ module _ {T C : Type 0} (by : Coding) (see : View ℕ T C) (invoke : ℕ → Lis
       (λ v n s h. h)
       (λ v n s after k h lead. leads_to by.code (ap (λ j. at (spot by f j (v ∷ ops) s after)) (sym
       here.ends)) lead)
-  act_runs (makes of tag home) order p q l vs args ops names slots c plain_ones stands ag le many also e =
+  act_runs (makes of tag home) order p q l vs args ops names slots c stands ag le many also e =
       let here = parts_of.of_one (makes_case of tag order home) p q stands in
       let type = placed.types p of tag order home here.here in
       sim_spare by f _ (omega arith)
@@ -298,16 +223,15 @@ module _ {T C : Type 0} (by : Coding) (see : View ℕ T C) (invoke : ℕ → Lis
       order home p q l vs args ops names slots c
       (placed.has p (makes_case of tag order home) here.here) here.ends ag many e type.1 (view.linear of
       type.0 type.1))
-  act_runs (ships call born) order p q l vs args ops names slots c plain_ones stands ag le many also e =
+  act_runs (ships call born) order p q l vs args ops names slots c stands ag le many also e =
       ships_run by f get placed depth wide room scope distinct call born order p q l vs args ops names slots c
-      (plain_ones call born refl) stands ag many also e
+      stands ag many also e
 
   -- by position
   position_runs : (one : Callee ℕ) (count : ℕ)
-      → ((call : ShippedCall) (born : Option ClosedType) → one.act ≡ ships call born → is_plain call ≡ true)
       → OnAll by f get depth wide room scope count (code.acts one.act (code.by_position one.parameters))
       (λ values. needing (acts.by_position values one.parameters) (meaning.acts see invoke one.act))
-  position_runs one count plain_ones = record {
+  position_runs one count = record {
     runs = λ p q vs ops names slots c l many stands ag le.
         sim_needing by f (acts.by_position (all_meant by vs) one.parameters) (meaning.acts see invoke
         one.act) (λ xs is.
@@ -316,7 +240,7 @@ module _ {T C : Type 0} (by : Coding) (see : View ℕ T C) (invoke : ℕ → Lis
         ∙ sym (numbers_length 0 one.parameters) in
         subst (λ ys. Sim by f (value_aim by f get depth wide room scope q ops) 6 (spot by f p (reverse vs ++
         ops) slots c) (suc l) (meaning.acts see invoke one.act ys (world by f names c) l)) (sym found.1)
-        (act_runs one.act (code.by_position one.parameters) p q l vs vs ops names slots c plain_ones stands
+        (act_runs one.act (code.by_position one.parameters) p q l vs vs ops names slots c stands
         ag le many2 refl
         (positions_ordered one.parameters (all_ran by vs) (sym found.0 ∙ sym (length-map vs (ran by))))));
   }
@@ -330,16 +254,15 @@ module _ {T C : Type 0} (by : Coding) (see : View ℕ T C) (invoke : ℕ → Lis
           → OnAll by f get depth wide room scope count
           (code.calls o code.by_position) (λ values. meaning.calls see invoke o (acts.by_position values))
       of_callee None is = no_act by f get placed depth wide room scope distinct nothing count
-      of_callee (Some one) is = position_runs one count (view.plain_calls note c1 name one is)
+      of_callee (Some one) is = position_runs one count
 
   -- by label
   label_runs : (one : Callee ℕ) (labels : List Bytes) → Once one.parameters
-      → ((call : ShippedCall) (born : Option ClosedType) → one.act ≡ ships call born → is_plain call ≡ true)
       → OnAll by f get depth wide room scope (length labels) (code.acts one.act (code.by_labels labels
       one.parameters))
       (λ values. needing (acts.by_labels (meaning.labelled labels values) one.parameters) (meaning.acts see
       invoke one.act))
-  label_runs one labels once plain_ones = record {
+  label_runs one labels once = record {
     runs = λ p q vs ops names slots c l many stands ag le.
         sim_needing by f (acts.by_labels (meaning.labelled labels (all_meant by vs)) one.parameters)
         (meaning.acts see invoke one.act) (λ xs is.
@@ -351,7 +274,7 @@ module _ {T C : Type 0} (by : Coding) (see : View ℕ T C) (invoke : ℕ → Lis
         ops) slots c) (suc l) (meaning.acts see invoke one.act ys (world by f names c) l)) (sym
         found.1.are)
         (act_runs one.act (code.by_labels labels one.parameters) p q l vs found.1.args ops names slots c
-        plain_ones stands ag le many2 (found.0 ∙ sym found.1.counted) found.1.ordered_are));
+        stands ag le many2 (found.0 ∙ sym found.1.counted) found.1.ordered_are));
   }
 
   pub named_run : (note : T) (c : C) (name : Bytes) (labels : List Bytes)
@@ -367,4 +290,3 @@ module _ {T C : Type 0} (by : Coding) (see : View ℕ T C) (invoke : ℕ → Lis
           (meaning.labelled labels values)))
       of_callee None is = no_act by f get placed depth wide room scope distinct nothing (length labels)
       of_callee (Some one) is = label_runs one labels (view.parameters note c1 name one is)
-          (view.plain_calls note c1 name one is)

@@ -4,6 +4,7 @@ use Rattle.std.proofs.Common.{Option, Some, None, refl, sym, ap, ap₂, ◌∙�
 use Rattle.std.specs.Prelude.{option_map}
 use Rattle.std.proofs.lemmas.List.{length-map, map-append, map-set}
 use Rattle.std.proofs.lemmas.Option.{slice_get-map}
+use Rattle.au_effects.specs.Calls.{elements_in, with_elements}
 use Rattle.au_effects.specs.Parts.{along}
 use Rattle.au_effects.specs.Places.{content_in}
 use Rattle.au_effects.specs.Values.{Value}
@@ -56,7 +57,15 @@ module _ {T S B D : Type 0} (f : Change T S) (g : B → D) (frames : List (List 
       ap (λ told. closes rest told) (tells_to (effects.closed borrow) w)
       ∙ closes_to rest (tells (effects.closed borrow) w)
 
--- the content of a box
+  -- a buffer holds other elements
+  pub with_elements_to : (id : ℕ) (values : List (Value T)) (w : World T B)
+      → with_elements id (map (value_to f) values) (world_to f g frames w)
+      ≡ world_to f g frames (with_elements id values w)
+  with_elements_to id values w =
+      ap (λ births. record (world_to f g frames w) { births = births })
+      (sym (map-set (held_to f) w.births id (elements values)))
+
+-- the content of a box, and the elements of a buffer
 module _ {T S : Type 0} (f : Change T S) where
   in_to : (held : Held T) → content_in (held_to f held) ≡ option_map (value_to f) (content_in held)
   in_to nothing = refl
@@ -73,3 +82,19 @@ module _ {T S : Type 0} (f : Change T S) where
       ≡ option_map (value_to f) (along (slice_get births id) content_in)
   content_to births id = ap (λ o. along o content_in) (slice_get-map (held_to f) births id)
       ∙ along_in (slice_get births id)
+
+  held_elements : (held : Held T) → elements_in (held_to f held) ≡ option_map (map (value_to f)) (elements_in held)
+  held_elements nothing = refl
+  held_elements (content one) = refl
+  held_elements (elements values) = refl
+
+  along_elements : (o : Option (Held T))
+      → along (option_map (held_to f) o) elements_in ≡ option_map (map (value_to f)) (along o elements_in)
+  along_elements None = refl
+  along_elements (Some held) = held_elements held
+
+  pub elements_to : (births : List (Held T)) (id : ℕ)
+      → along (slice_get (map (held_to f) births) id) elements_in
+      ≡ option_map (map (value_to f)) (along (slice_get births id) elements_in)
+  elements_to births id = ap (λ o. along o elements_in) (slice_get-map (held_to f) births id)
+      ∙ along_elements (slice_get births id)

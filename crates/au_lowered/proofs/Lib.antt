@@ -3,7 +3,9 @@ pub mod TreeLemmas
 pub mod ReturnLemmas
 pub mod StandLemmas
 pub mod OrderLemmas
+pub mod AlikeLemmas
 pub mod ShippedLemmas
+pub mod ShippedRows
 pub mod RowLemmas
 pub mod ReferenceRows
 pub mod BranchLemmas

@@ -9,6 +9,7 @@ use Rattle.au_ints.specs.declared.operations.Order.TheVariants as order
 use Rattle.au_ints.specs.Operations.{trapped, converted}
 use Rattle.au_effects.specs.Answers as answer
 use Rattle.au_effects.specs.Answers.{Result}
+use Rattle.au_effects.specs.Calls.{root_in, box_in, buffer_in, terminal_in}
 use Rattle.au_effects.specs.Numbers.{number_in, if_of, number_of, truth_in, text_in, on_both, number_or_fault}
 use Rattle.au_effects.specs.Numbers.{computed, wrapped_around, compared_truths, compared, turned, negated}
 use Rattle.au_effects.specs.Numbers.{at_kind, converted_from, converted_value}
@@ -105,7 +106,7 @@ module _ {T S : Type 0} (f : Change T S) where
   number_in_to (terminal birth) = refl
   number_in_to (root birth) = refl
 
-  number_of_to : (kind : IntKind) (value : Value T) → number_of kind (value_to f value)
+  pub number_of_to : (kind : IntKind) (value : Value T) → number_of kind (value_to f value)
       ≡ number_of kind value
   number_of_to kind value = ap (λ o. if_of kind o) (number_in_to value)
 
@@ -132,6 +133,23 @@ module _ {T S : Type 0} (f : Change T S) where
   text_in_to (buffer birth) = refl
   text_in_to (terminal birth) = refl
   text_in_to (root birth) = refl
+
+  -- the root, the box, the buffer and the terminal that a value is
+  pub root_in_to : (value : Value T) → root_in (value_to f value) ≡ root_in value
+  root_in_to (root birth) = refl
+  root_in_to other = refl
+
+  pub box_in_to : (value : Value T) → box_in (value_to f value) ≡ box_in value
+  box_in_to (box birth) = refl
+  box_in_to other = refl
+
+  pub buffer_in_to : (value : Value T) → buffer_in (value_to f value) ≡ buffer_in value
+  buffer_in_to (buffer birth) = refl
+  buffer_in_to other = refl
+
+  pub terminal_in_to : (value : Value T) → terminal_in (value_to f value) ≡ terminal_in value
+  terminal_in_to (terminal birth) = refl
+  terminal_in_to other = refl
 
   -- ---- operations
 

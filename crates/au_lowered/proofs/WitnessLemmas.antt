@@ -23,7 +23,6 @@ view_is_good = record {
   constants = λ note name value e. absurd (grind arith);
   parameters = λ note c name one e.
       let is : exit_callee ≡ one = cc in subst (λ (x : Callee ℕ). Once x.parameters) is tt;
-  plain_calls = λ note c name one e call born a. absurd (grind (arith, e, a));
   linear = λ of type e.
       told_so (slice_get (types_in (exits ∷ [])) (type_number (types_in (exits ∷ [])) of)) type
       (sym (slice_get-map plainly_told (types_in (exits ∷ [])) (type_number (types_in (exits ∷ [])) of)) ∙ e);

@@ -2,7 +2,7 @@
 use Rattle.std.specs.Prelude.{◌≡◌, ℕ, true, false, List, [], ◌∷◌, ◌++◌, map, Option, Some, None, pos, negsuc}
 use Rattle.std.specs.Prelude.{codes, if◌then◌else◌}
 use Rattle.std.specs.Str.{bytes_eq}
-use Rattle.au_base.specs.declared.kinds.IntKind.TheVariants.{Nat8, Int8}
+use Rattle.au_base.specs.declared.kinds.IntKind.TheVariants.{Nat8, Int8, Index}
 use Rattle.au_type_texts.specs.Types as closed_type
 use Rattle.au_type_texts.specs.Types.{ClosedType}
 use Rattle.au_effects.specs.Values as values
@@ -11,20 +11,22 @@ use Rattle.au_low.specs.declared.code.Code.{Code}
 use Rattle.au_low.specs.declared.instructions.Instr.TheVariants as instr
 use Rattle.au_low.specs.declared.instructions.Mode.TheVariants as mode
 use Rattle.au_low.specs.Runs.{low_run}
-use Rattle.au_meaning.specs.Views.{Callee, Function, ships}
+use Rattle.au_meaning.specs.Views.{Act, Callee, Function, ships}
 use Rattle.au_meaning.specs.Samples.{Note, Tree, Sample, Instance, here, word, noted, linear, at_type, bytes}
 use Rattle.au_meaning.specs.Samples.{called_tree, block, variable, prints, succeeds, main, byte, plain, pair}
 use Rattle.au_meaning.specs.Samples.{key, maybe_of, exit_code, maybe}
 use Rattle.au_meaning.specs.Shown.{Line, alone, does, says, name, is}
 use Rattle.au_meaning.specs.ShownReferences.{written_byte, lending}
 use Rattle.au_shipped.specs.declared.prims.ShippedCall.TheVariants as prim
-use Rattle.au_syntax.specs.Expressions.{negative, path, named_call, parenthesized, typed, arguments}
+use Rattle.au_syntax.specs.declared.expressions.BorrowMode.TheVariants as borrowing
+use Rattle.au_syntax.specs.Expressions.{borrow, negative, path, named_call, parenthesized, typed, arguments}
 use Rattle.au_syntax.specs.Expressions.{no_arguments}
 use Rattle.au_syntax.specs.Plain.{Bytes}
 use Rattle.au_syntax.specs.Statements.{skip, destructure, assign, conditional, conditional_else, case_of}
 use Rattle.au_syntax.specs.Statements.{while_loop, for_loop, discard, return_of, branches, no_branches, arms}
 use Rattle.au_syntax.specs.Statements.{no_arms}
 use Rattle.au_syntax.specs.Types.{Bound}
+use Rattle.au_types.specs.declared.types.Region.TheVariants.{Static}
 use Rattle.au_types.specs.Types as type
 use Rattle.au_lowered.specs.Drafts as drafts
 use Rattle.au_lowered.specs.Expressions.{acts, by_labels, literal}
@@ -227,6 +229,57 @@ boxing_code = entry [] (closing.box ∷ exit_code ∷ []) 1 (
     put 7 ∷ instr.Shipped prim.MakeBox (Some 0) [] ∷ instr.Store 0
     ∷ instr.Move 0 ∷ ship prim.Unbox ∷ print prim.PrintLnInt (succeed 1))
 
+-- ---- a buffer behind references
+
+-- `Buffer[Nat8]`, as a type and as a closed one
+abbrev pub buffer_of_byte : type.Meaning
+buffer_of_byte = type.named closing.buffer (type.arguments (type.of_type byte) type.no_arguments)
+
+abbrev pub closed_buffer : ClosedType
+closed_buffer =
+    closed_type.named closing.buffer (closed_type.types (closed_type.integer Nat8) closed_type.no_types)
+
+-- what calls of buffers call
+abbrev pub of_buffer : List Bytes → Act ℕ → Option (Callee ℕ)
+of_buffer parameters act = Some (record { parameters = parameters; act = act })
+
+abbrev pub buffer_calls : Bytes → Option (Callee ℕ)
+buffer_calls name =
+    if bytes_eq name (codes "makeEmpty") then of_buffer [] (ships prim.MakeEmpty (Some closed_buffer))
+    else if bytes_eq name (codes "insertBack")
+    then of_buffer (codes "buffer" ∷ codes "element" ∷ []) (ships prim.InsertBack None)
+    else if bytes_eq name (codes "length") then of_buffer (codes "buffer" ∷ []) (ships prim.Length None)
+    else if bytes_eq name (codes "removeBack") then of_buffer (codes "buffer" ∷ []) (ships prim.RemoveBack None)
+    else if bytes_eq name (codes "destroyEmpty") then of_buffer (codes "buffer" ∷ []) (ships prim.DestroyEmpty None)
+    else None
+
+-- `&b` and `&!b`
+abbrev pub read_buffer : Tree
+read_buffer = borrow (noted (type.reads buffer_of_byte Static)) borrowing.Read (word (codes "b"))
+
+abbrev pub write_buffer : Tree
+write_buffer = borrow (linear (type.writes buffer_of_byte Static)) borrowing.Write (word (codes "b"))
+
+-- `let b: Buffer[Nat8] := makeEmpty(); insertBack(&!b, 7); printLn(length(&b));`
+-- `printLn(removeBack(&!b)); destroyEmpty(b); ..`
+abbrev pub filling : List (Function ℕ Note (Unit {0}))
+filling = map (closing.with_calls buffer_calls) (closing.closed_over (closing.alone 0 ∷ []) (alone (
+    variable (codes "b") (called_tree (linear buffer_of_byte) (codes "makeEmpty") [])
+    ∷ does type.unit (codes "insertBack") (write_buffer ∷ bytes 7 ∷ [])
+    ∷ prints (type.integer Index)
+    (called_tree (noted (type.integer Index)) (codes "length") (read_buffer ∷ []))
+    ∷ prints byte (called_tree (noted byte) (codes "removeBack") (write_buffer ∷ []))
+    ∷ does type.unit (codes "destroyEmpty") (path (linear buffer_of_byte) (word (codes "b")) [] ∷ [])
+    ∷ succeeds ∷ [])))
+
+abbrev pub filling_code : Code
+filling_code = entry [] (closing.buffer ∷ exit_code ∷ []) 1 (
+    instr.Shipped prim.MakeEmpty (Some 0) [] ∷ instr.Store 0
+    ∷ instr.Open 0 mode.Write ∷ put 7 ∷ ship prim.InsertBack ∷ instr.Close 0 ∷ instr.Discard
+    ∷ instr.Open 0 mode.Read ∷ ship prim.Length ∷ ship prim.PrintLnInt ∷ instr.Close 0 ∷ instr.Discard
+    ∷ instr.Open 0 mode.Write ∷ ship prim.RemoveBack ∷ ship prim.PrintLnInt ∷ instr.Close 0 ∷ instr.Discard
+    ∷ instr.Move 0 ∷ ship prim.DestroyEmpty ∷ instr.Discard ∷ succeed 1)
+
 -- ---- pieces
 
 -- literals of constants, and shipped calls whose arguments aren't in declared order
@@ -253,6 +306,7 @@ pub record FormsAreLowered : Type 0 where
   pub instructions : instructions_of (closing.closed_over met rounds) ≡ 35
   pub steps : (low_run true rounds_code [] 299).made ≡ 224
   pub in_boxing : LowersOver boxing boxing_code
+  pub in_filling : LowersOver filling filling_code
   pub pieces : PiecesAreShown
 
 -- ---- references

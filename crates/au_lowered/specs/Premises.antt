@@ -1,5 +1,5 @@
 -- What is wanted of a view, of the code of a function, and of calls.
-use Rattle.std.specs.Prelude.{◌≡◌, ℕ, suc, ◌+◌, ◌<◌, Bool, true, false, List, [], ◌∷◌, ◌++◌, length, reverse}
+use Rattle.std.specs.Prelude.{◌≡◌, ℕ, suc, ◌+◌, ◌<◌, true, false, List, [], ◌∷◌, ◌++◌, length, reverse}
 use Rattle.std.specs.Prelude.{Option, Some, slice_get, nat_lt}
 use Rattle.std.specs.Str.{bytes_eq}
 use Rattle.au_type_texts.specs.Types.{ClosedType}
@@ -13,10 +13,9 @@ use Rattle.au_low.specs.Machines.{ordered}
 use Rattle.au_lowered.specs.Drafts.{Draft, plain, pushes_text, makes_case, ships_birth}
 use Rattle.au_lowered.specs.Laws.{labels_in}
 use Rattle.au_meaning.specs.Ticks.{Action}
-use Rattle.au_meaning.specs.Views.{View, Callee, ships}
+use Rattle.au_meaning.specs.Views.{View, Callee}
 use Rattle.au_meaning.specs.Worlds.{Value}
 use Rattle.au_shipped.specs.declared.prims.ShippedCall.{ShippedCall}
-use Rattle.au_shipped.specs.declared.prims.ShippedCall.TheVariants as prim
 use Rattle.au_lowered.specs.Sides.{Coding, Both, Names, Slots, Common, meant, all_meant, all_ran}
 use Rattle.au_lowered.specs.Frames.{Frame, Wide, Agree, spot, world}
 use Rattle.au_lowered.specs.Scopes.{Entry, Distinct}
@@ -42,32 +41,14 @@ abbrev pub Once : List Bytes → Type 0
 Once [] = Unit {0}
 Once (name ∷ rest) = Lacks name rest × Once rest
 
--- whether a shipped call has to do with no box, buffer or terminal
-abbrev pub is_plain : ShippedCall → Bool
-is_plain prim.PrintText = true
-is_plain prim.PrintInt = true
-is_plain prim.PrintBool = true
-is_plain prim.PrintLnText = true
-is_plain prim.PrintLnInt = true
-is_plain prim.PrintLnBool = true
-is_plain (prim.Wrap op kind) = true
-is_plain (prim.Convert kind) = true
-is_plain prim.SurrenderRoot = true
-is_plain prim.Abort = true
-is_plain prim.SpanLength = true
-is_plain prim.Swap = true
-is_plain other = false
-
 module _ {T C : Type 0} (by : Coding) (see : View ℕ T C) where
-  -- A view that code can follow: constants have literals, parameters have names of their own, shipped calls
-  -- are plain, and a type of the code is linear where the view says so.
+  -- A view that code can follow: constants have literals, parameters have names of their own, and a type of
+  -- the code is linear where the view says so.
   pub record GoodView : Type 0 where
     pub constants : (note : T) (name : Bytes) (value : Value) → see.constant note name ≡ Some value
         → HasLiteral value
     pub parameters : (note : T) (c : C) (name : Bytes) (one : Callee ℕ) → see.callee note c name ≡ Some one
         → Once one.parameters
-    pub plain_calls : (note : T) (c : C) (name : Bytes) (one : Callee ℕ) → see.callee note c name ≡ Some one
-        → (call : ShippedCall) (born : Option ClosedType) → one.act ≡ ships call born → is_plain call ≡ true
     pub linear : (of : ClosedType) (type : LowType) → slice_get by.code.types (by.of of) ≡ Some type
         → type.linear ≡ see.is_linear of
 

@@ -75,9 +75,12 @@ at n t = record { function = n; given = (codes "T", type.of_type t) ∷ [] }
 abbrev pub row : List ℕ → List ℕ → Bool → LowType
 row text home linear = record { text = text; «module» = home; linear = linear }
 
--- `Box`
+-- `Box` and `Buffer`
 abbrev pub box : DeclAt
 box = record { «module» = 2; decl = 0 }
+
+abbrev pub buffer : DeclAt
+buffer = record { «module» = 3; decl = 0 }
 
 abbrev pub row_at : DeclAt → LowType
 row_at at =
@@ -87,6 +90,7 @@ row_at at =
     else if same_place at pair then row (codes "Main:Pair") (codes "Main") false
     else if same_place at key then row (codes "Main:Key") (codes "Main") true
     else if same_place at box then row (codes "Standard.Box:Box[Nat8]") (codes "Standard.Box") true
+    else if same_place at buffer then row (codes "Standard.Buffer:Buffer[Nat8]") (codes "Standard.Buffer") true
     else row (codes "Main:Maybe[Nat8]") (codes "Main") false
 
 abbrev pub told_of : ClosedType → LowType

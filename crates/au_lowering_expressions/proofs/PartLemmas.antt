@@ -13,9 +13,7 @@ use Rattle.au_lowering_expressions.proofs.WroteLemmas.{wrote_nothing}
 use Rattle.au_meaning.specs.Expressions.{names_of, alone}
 use Rattle.au_meaning.specs.Names.{Scope, Variable, field_of, path_numbers, target_behind, variable_of}
 use Rattle.au_meaning.specs.Views.{Field, View}
-use Rattle.au_syntax.specs.Expressions.{Expression, Node, number, negative, text, truth, nil, path, arrow}
-use Rattle.au_syntax.specs.Expressions.{call, named_call, parenthesized, dereference, borrow, borrow_part}
-use Rattle.au_syntax.specs.Expressions.{binary, negation, typed, choice}
+use Rattle.au_syntax.specs.Expressions.{Expression, Node, number, path}
 use Rattle.au_syntax.specs.Names.{Placed}
 use Rattle.au_syntax.specs.Plain.{Bytes}
 

@@ -30,14 +30,17 @@ field_reached : (through : Option Access) (number : ℕ) (name : Bytes) (fields 
     → field_from number name (map (reached_field through) fields)
     ≡ option_map (reached_found through) (field_from number name fields)
 field_reached through number name [] = refl
-field_reached through number name (one ∷ rest) = by (bytes_eq one.name name)
+field_reached through number name (one ∷ rest) =
+    by (bytes_eq one.name name) (field_reached through (number + 1) name rest)
   where
-    by : (b : Bool) → (if b then Some (number, reached through one.of)
+    by : (b : Bool) → field_from (number + 1) name (map (reached_field through) rest)
+        ≡ option_map (reached_found through) (field_from (number + 1) name rest)
+        → (if b then Some (number, reached through one.of)
         else field_from (number + 1) name (map (reached_field through) rest))
         ≡ option_map (reached_found through)
         (if b then Some (number, one.of) else field_from (number + 1) name rest)
-    by true = refl
-    by false = field_reached through (number + 1) name rest
+    by true later = refl
+    by false later = later
 
 pub taken_found : (round : Surroundings) (taken : Taken) (name : Bytes) (found : Option (ℕ × ClosedType))
     → found ≡ field_in round (closed_meaning taken.of.now) taken.tag name

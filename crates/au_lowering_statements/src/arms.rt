@@ -3,7 +3,6 @@
 ghost use Rattle.std.specs.Prelude.{◌≡◌, ◌+◌, ◌++◌, ◌∷◌, [], IfOk, OnOk, Some, length, map, max, set};
 ghost use Rattle.au_closed_trees.specs.contracts.phase.ClosedTreesPhase.TheImpl.{ghosts as closed};
 ghost use Rattle.au_closed_trees.specs.TreeViews.{closed_note};
-ghost use Rattle.au_type_texts.specs.Views.{closed_meaning};
 ghost use Rattle.au_closed_meanings.specs.Surroundings.{view_in};
 ghost use Rattle.au_low.specs.declared.instructions.Instr.TheVariants.{Case};
 ghost use Rattle.au_lowered.specs.Drafts.{does, plain};

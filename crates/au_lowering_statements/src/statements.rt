@@ -15,7 +15,7 @@ ghost use Rattle.au_lowering_statements.specs.Pieces as pieces;
 ghost use Rattle.au_lowering_statements.specs.Ends as ends;
 ghost use Rattle.au_lowering_statements.specs.Views.{starts_said};
 ghost use Rattle.au_meaning.specs.Expressions as meant;
-ghost use Rattle.au_meaning.specs.Names as names;
+ghost use Rattle.au_meaning.specs.Names as named;
 ghost use Rattle.au_meaning.specs.Names.{variable_of, with_name};
 ghost use Rattle.au_syntax.specs.Views.{arm_all, block, bound, branch_all, expression, placed, statement};
 
@@ -195,7 +195,7 @@ fn write_borrow<R: Lookup>(
         ≡ wrote (spec.lends (returning.block_returns (block closed body.now)) by.now.around by.now.slot mode
         (variable_of (scope_said scope.old.items) variable.now)
         (spec.block (view_in (R.round by.now.lookup.now)) (by.now.around + 1) (by.now.slot + 1)
-        (names.with_reference mode (variable_of (scope_said scope.old.items) variable.now) by.now.slot
+        (named.with_reference mode (variable_of (scope_said scope.old.items) variable.now) by.now.slot
         name.now (scope_said scope.old.items)) (block closed body.now))) (drafts_said out.old.items)) }
     ensures same { OnOk result (scope.new.items ≡ scope.old.items) }
 {
@@ -219,10 +219,10 @@ fn write_borrow_as<R: Lookup>(
 ) -> Result<(), Memory>
     ensures code { OnOk result (drafts_said out.new.items
         ≡ wrote (spec.lends (returning.block_returns (block closed body.now)) by.now.around by.now.slot
-        (names.mode_of access)
+        (named.mode_of access)
         (variable_of (scope_said scope.old.items) (placed closed names.now.variable).name)
         (spec.block (view_in (R.round by.now.lookup.now)) (by.now.around + 1) (by.now.slot + 1)
-        (names.with_reference (names.mode_of access)
+        (named.with_reference (named.mode_of access)
         (variable_of (scope_said scope.old.items) (placed closed names.now.variable).name) by.now.slot
         (placed closed names.now.reference).name
         (scope_said scope.old.items)) (block closed body.now))) (drafts_said out.old.items)) }

@@ -1,5 +1,5 @@
 -- Code can follow closed functions of which this is asked.
-use Rattle.std.proofs.Common.{◌≡◌, ℕ, suc, ◌&&◌, true, List, [], ◌∷◌, Option, Some, None, refl, subst}
+use Rattle.std.proofs.Common.{◌≡◌, ℕ, suc, true, List, [], ◌∷◌, Option, Some, None, refl, subst}
 use Rattle.std.specs.Option.{option_map}
 use Rattle.au_syntax.specs.Expressions.{Expression, Expressions, Arguments, number, negative, text, truth}
 use Rattle.au_syntax.specs.Expressions.{nil, path, arrow, call, named_call, parenthesized, dereference}
@@ -21,10 +21,10 @@ use Rattle.au_closed_meanings.specs.Closed.{surroundings_of}
 use Rattle.au_meaning.specs.Views.{Act, Field, invokes, makes}
 use Rattle.au_shipped.specs.declared.prims.ShippedCall.{ShippedCall}
 use Rattle.au_shipped.specs.declared.prims.ShippedCall.TheVariants as prim
-use Rattle.au_running.specs.Asked.{AreSimple, FieldsAreOnce, InRange, IsPlainCall, ParametersAreOnce}
+use Rattle.au_running.specs.Asked.{AreSimple, FieldsAreOnce, InRange, IsAny, ParametersAreOnce}
 use Rattle.au_running.specs.Followed.{functions_in, functions_of}
 use Rattle.au_running.specs.Suits.{CanCall, CanMention, EachSuits, SaidOf, SaidOfAll, SaidOfNamed, SaidIn}
-use Rattle.au_running.specs.Suits.{SaidOfBlock, SaidOfTests, SaidOfArms, SuitsBlock, acts_plainly, are_once}
+use Rattle.au_running.specs.Suits.{SaidOfBlock, SaidOfTests, SaidOfArms, SuitsBlock, are_once}
 use Rattle.au_running.specs.Suits.{has_literal, is_followed, passes}
 
 -- ---- what is said more
@@ -122,12 +122,12 @@ shipped_once prim.ReadByte = refl
 shipped_once prim.WriteByte = refl
 shipped_once prim.ReleaseTerminal = refl
 
--- where names are known they are each there once, and what the call does is plain
+-- where names are known they are each there once
 known_follows : (names : Option (List Bytes)) (act : Act ℕ)
-    → ((all : List Bytes) → names ≡ Some all → are_once all ≡ true) → acts_plainly act ≡ true
+    → ((all : List Bytes) → names ≡ Some all → are_once all ≡ true)
     → passes is_followed (with_parameters names act) ≡ true
-known_follows None act once plain = refl
-known_follows (Some all) act once plain = λ i. once all refl i && plain i
+known_follows None act once = refl
+known_follows (Some all) act once = once all refl
 
 literal_follows : (o : Option Literal)
     → ((literal : Literal) → o ≡ Some literal → has_literal (literal_value literal) ≡ true)
@@ -150,20 +150,20 @@ module _ (round : Surroundings)
   case_once (Some fields) ok all e =
       let is : field_names fields ≡ all = cc in subst (λ l. are_once l ≡ true) is (ok fields refl)
 
-  call_follows : (n : ClosedNote) (c : Callee ℕ) (name : Bytes) → IsPlainCall n c name
+  call_follows : (n : ClosedNote) (c : Callee ℕ) (name : Bytes) → IsAny n c name
       → CanCall (view_in round) n c name
   call_follows n (instance which) name ok =
-      known_follows (round.parameters which) (invokes which) (once which) refl
+      known_follows (round.parameters which) (invokes which) (once which)
   call_follows n (constructor of tag) name ok =
       known_follows (option_map field_names (round.fields of tag)) (makes of tag round.home)
-      (case_once (round.fields of tag) (fields_once of tag)) refl
-  call_follows n (shipped which) name ok = λ i. shipped_once which i && ok i
+      (case_once (round.fields of tag) (fields_once of tag))
+  call_follows n (shipped which) name ok = shipped_once which
 
   -- code can follow a block of which this is asked
-  pub block_follows : (b : Statements Bytes ClosedNote (Callee ℕ)) → SaidOfBlock InRange IsPlainCall b
+  pub block_follows : (b : Statements Bytes ClosedNote (Callee ℕ)) → SaidOfBlock InRange IsAny b
       → SuitsBlock (view_in round) b
   block_follows b ok =
-      more_block InRange (CanMention (view_in round)) IsPlainCall (CanCall (view_in round)) mention_follows
+      more_block InRange (CanMention (view_in round)) IsAny (CanCall (view_in round)) mention_follows
       call_follows b ok
 
 -- ---- functions

@@ -2,10 +2,9 @@
 use Rattle.std.proofs.Common.{◌≡◌, ℕ, zero, suc, ◌+◌, Bool, true, List, [], ◌∷◌, Option, Some, None, map, refl, sym, ap, ap₂}
 use Rattle.std.proofs.Common.{◌∙◌, slice_get}
 use Rattle.std.specs.Prelude.{if◌then◌else◌}
-use Rattle.std.specs.Option.{option_map}
 use Rattle.std.specs.Str.{bytes_eq}
 use Rattle.au_effects.specs.Parts.{along}
-use Rattle.au_meaning.specs.Names.{told_type, fields_through}
+use Rattle.au_meaning.specs.Names.{fields_through}
 use Rattle.au_meaning.specs.Views.{Field}
 use Rattle.au_syntax.specs.Modules.{Variant, record_type, union_type}
 use Rattle.au_syntax.specs.Plain.{Bytes, PlainDeclaration}
@@ -23,9 +22,9 @@ use Rattle.au_closed_trees.specs.Parts.{ClosedCase, ClosedField, cases_of, decla
 use Rattle.au_closed_trees.specs.Parts.{variant_under}
 use Rattle.au_closed_trees.specs.TypeNames.{given_over, listed, type_names}
 use Rattle.au_closing.specs.Closes.{ClosedFunction}
-use Rattle.au_closed_meanings.specs.Generic.{case_seen, field_seen, fields_in, tag_in}
+use Rattle.au_closed_meanings.specs.Generic.{case_seen, field_seen}
 use Rattle.au_closed_meanings.specs.Kept.{SaysWhatIs}
-use Rattle.au_closed_meanings.specs.Programs.{Case, case_from, fields_at}
+use Rattle.au_closed_meanings.specs.Programs.{case_from, fields_at}
 use Rattle.au_closed_meanings.specs.Surroundings.{Surroundings, field_names}
 use Rattle.au_lowered.specs.Slots.{known}
 

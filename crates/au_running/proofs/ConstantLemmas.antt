@@ -43,79 +43,75 @@ use Rattle.au_closing.specs.Closes.{ClosedFunction, ClosesFunctions, body_closed
 use Rattle.au_closing.specs.Closes.{mention_closed}
 use Rattle.au_closing.specs.Instances.{Instance}
 use Rattle.au_closed_meanings.specs.Surroundings.{literal_value}
-use Rattle.au_running.specs.Asked.{AreSimple, CallsArePlain, InRange, IsAny, IsPlainCall}
+use Rattle.au_running.specs.Asked.{AreSimple, InRange, IsAny}
 use Rattle.au_running.specs.Suits.{SaidOf, SaidOfAll, SaidOfNamed, SaidIn, SaidOfBlock, SaidOfTests}
 use Rattle.au_running.specs.Suits.{SaidOfArms, has_literal}
 use Rattle.au_running.proofs.DerivedLemmas.{good_there, module_good}
 
 -- ---- what is said of a tree with other notes
 
-module _ {T C U D : Type 0} (change : Change Bytes T C U D) (mentioned any : U → Bytes → Type 0)
-    (called : U → D → Bytes → Type 0) (mention : (n : T) (name : Bytes)
-    → mentioned (change.mention n name) name) where
-  mutual
-    noted : (e : Expression Bytes T C) → SaidOf any called (expression_renoted change e)
-        → SaidOf mentioned called (expression_renoted change e)
-    noted (number n l) ok = tt
-    noted (negative n l) ok = tt
-    noted (text n t) ok = tt
-    noted (truth n b) ok = tt
-    noted (nil n) ok = tt
-    noted (path n x fields) ok = mention n.note x.name
-    noted (arrow n r fields) ok = tt
-    noted (call n f args c) ok = (ok.0, noted_all args ok.1)
-    noted (named_call n f args c) ok = (ok.0, noted_named args ok.1)
-    noted (parenthesized n e) ok = noted e ok
-    noted (dereference n e) ok = noted e ok
-    noted (borrow n mode x) ok = tt
-    noted (borrow_part n r fields) ok = tt
-    noted (binary n op a b) ok = (noted a ok.0, noted b ok.1)
-    noted (negation n e) ok = noted e ok
-    noted (typed n e t) ok = noted e ok
-    noted (choice n c a b) ok = (noted c ok.0, noted a ok.1, noted b ok.2)
-
-    noted_all : (es : Expressions Bytes T C) → SaidOfAll any called (expressions_renoted change es)
-        → SaidOfAll mentioned called (expressions_renoted change es)
-    noted_all no_expressions ok = tt
-    noted_all (expressions e rest) ok = (noted e ok.0, noted_all rest ok.1)
-
-    noted_named : (es : Arguments Bytes T C) → SaidOfNamed any called (arguments_renoted change es)
-        → SaidOfNamed mentioned called (arguments_renoted change es)
-    noted_named no_arguments ok = tt
-    noted_named (arguments label e rest) ok = (noted e ok.0, noted_named rest ok.1)
+module _ {T C U D : Type 0} (change : Change Bytes T C U D) (mentioned : U → Bytes → Type 0)
+    (mention : (n : T) (name : Bytes) → mentioned (change.mention n name) name) where
+  -- nothing is said of a call
+  abbrev called : U → D → Bytes → Type 0
+  called note c name = Unit {0}
 
   mutual
-    noted_in : (s : Statement Bytes T C) → SaidIn any called (statement_renoted change s)
-        → SaidIn mentioned called (statement_renoted change s)
-    noted_in (skip at) ok = tt
-    noted_in (declare at b n t e) ok = noted e ok
-    noted_in (destructure at binds e) ok = noted e ok
-    noted_in (assign at n fields e) ok = noted e ok
-    noted_in (assign_through at n fields e) ok = noted e ok
-    noted_in (conditional at tests) ok = noted_tests tests ok
-    noted_in (conditional_else at tests b) ok = (noted_tests tests ok.0, noted_block b ok.1)
-    noted_in (case_of at e all) ok = (noted e ok.0, noted_arms all ok.1)
-    noted_in (while_loop at e b) ok = (noted e ok.0, noted_block b ok.1)
-    noted_in (for_loop at n a z b) ok = (noted a ok.0, noted z ok.1, noted_block b ok.2)
-    noted_in (borrow_in at access x r region b stop) ok = noted_block b ok
-    noted_in (borrow_typed at r t mode x b stop) ok = noted_block b ok
-    noted_in (discard at e) ok = noted e ok
-    noted_in (return_of at e) ok = noted e ok
+    noted : (e : Expression Bytes T C) → SaidOf mentioned called (expression_renoted change e)
+    noted (number n l) = tt
+    noted (negative n l) = tt
+    noted (text n t) = tt
+    noted (truth n b) = tt
+    noted (nil n) = tt
+    noted (path n x fields) = mention n.note x.name
+    noted (arrow n r fields) = tt
+    noted (call n f args c) = (tt, noted_all args)
+    noted (named_call n f args c) = (tt, noted_named args)
+    noted (parenthesized n e) = noted e
+    noted (dereference n e) = noted e
+    noted (borrow n mode x) = tt
+    noted (borrow_part n r fields) = tt
+    noted (binary n op a b) = (noted a, noted b)
+    noted (negation n e) = noted e
+    noted (typed n e t) = noted e
+    noted (choice n c a b) = (noted c, noted a, noted b)
 
-    noted_block : (b : Statements Bytes T C) → SaidOfBlock any called (block_renoted change b)
-        → SaidOfBlock mentioned called (block_renoted change b)
-    noted_block no_statements ok = tt
-    noted_block (statements s rest) ok = (noted_in s ok.0, noted_block rest ok.1)
+    noted_all : (es : Expressions Bytes T C) → SaidOfAll mentioned called (expressions_renoted change es)
+    noted_all no_expressions = tt
+    noted_all (expressions e rest) = (noted e, noted_all rest)
 
-    noted_tests : (tests : Branches Bytes T C) → SaidOfTests any called (branches_renoted change tests)
-        → SaidOfTests mentioned called (branches_renoted change tests)
-    noted_tests no_branches ok = tt
-    noted_tests (branches e b rest) ok = (noted e ok.0, noted_block b ok.1, noted_tests rest ok.2)
+    noted_named : (es : Arguments Bytes T C) → SaidOfNamed mentioned called (arguments_renoted change es)
+    noted_named no_arguments = tt
+    noted_named (arguments label e rest) = (noted e, noted_named rest)
 
-    noted_arms : (all : Arms Bytes T C) → SaidOfArms any called (arms_renoted change all)
-        → SaidOfArms mentioned called (arms_renoted change all)
-    noted_arms no_arms ok = tt
-    noted_arms (arms at n binds b rest) ok = (noted_block b ok.0, noted_arms rest ok.1)
+  mutual
+    noted_in : (s : Statement Bytes T C) → SaidIn mentioned called (statement_renoted change s)
+    noted_in (skip at) = tt
+    noted_in (declare at b n t e) = noted e
+    noted_in (destructure at binds e) = noted e
+    noted_in (assign at n fields e) = noted e
+    noted_in (assign_through at n fields e) = noted e
+    noted_in (conditional at tests) = noted_tests tests
+    noted_in (conditional_else at tests b) = (noted_tests tests, noted_block b)
+    noted_in (case_of at e all) = (noted e, noted_arms all)
+    noted_in (while_loop at e b) = (noted e, noted_block b)
+    noted_in (for_loop at n a z b) = (noted a, noted z, noted_block b)
+    noted_in (borrow_in at access x r region b stop) = noted_block b
+    noted_in (borrow_typed at r t mode x b stop) = noted_block b
+    noted_in (discard at e) = noted e
+    noted_in (return_of at e) = noted e
+
+    noted_block : (b : Statements Bytes T C) → SaidOfBlock mentioned called (block_renoted change b)
+    noted_block no_statements = tt
+    noted_block (statements s rest) = (noted_in s, noted_block rest)
+
+    noted_tests : (tests : Branches Bytes T C) → SaidOfTests mentioned called (branches_renoted change tests)
+    noted_tests no_branches = tt
+    noted_tests (branches e b rest) = (noted e, noted_block b, noted_tests rest)
+
+    noted_arms : (all : Arms Bytes T C) → SaidOfArms mentioned called (arms_renoted change all)
+    noted_arms no_arms = tt
+    noted_arms (arms at n binds b rest) = (noted_block b, noted_arms rest)
 
 -- ---- literals
 
@@ -200,29 +196,27 @@ module _ (program : List ModuleParts) (noted : List NotedParts) (derived : IsDer
   module _ (all : List Instance) where
     made_simple : (one : Instance) (o : Option BodyOf) (f : ClosedFunction)
         → Some (Some f) ≡ Some (option_map (body_closed program noted all one.given) o)
-        → SaidOfBlock IsAny IsPlainCall f.body → SaidOfBlock InRange IsPlainCall f.body
+        → SaidOfBlock InRange IsAny f.body
     made_simple one None f e = absurd cc
     made_simple one (Some body) f e =
         let same : body_closed program noted all one.given body ≡ f = cc in
         let params = written_params body.generics in
-        subst (λ (x : ClosedFunction). SaidOfBlock IsAny IsPlainCall x.body
-        → SaidOfBlock InRange IsPlainCall x.body)
-        same
-        (noted_block (change_of program noted all body.place params one.given) InRange IsAny IsPlainCall
+        subst (λ (x : ClosedFunction). SaidOfBlock InRange IsAny x.body) same
+        (noted_block (change_of program noted all body.place params one.given) InRange
         (mention_ranges body.place params one.given) body.block)
 
     instance_simple : (o : Option Instance) (f : ClosedFunction)
         → Some (Some f) ≡ option_map (instance_closed program noted all) o
-        → SaidOfBlock IsAny IsPlainCall f.body → SaidOfBlock InRange IsPlainCall f.body
+        → SaidOfBlock InRange IsAny f.body
     instance_simple None f e = absurd cc
     instance_simple (Some one) f e = made_simple one (body_of program noted one.of) f e
 
--- closed functions of a derived program whose shipped calls are plain are simple
-pub plain_simple : (program : List ModuleParts) (noted : List NotedParts) → IsDerived program noted
+-- closed functions of a derived program are simple
+pub are_simple : (program : List ModuleParts) (noted : List NotedParts) → IsDerived program noted
     → (entry : Instance) (functions : List ClosedFunction) → ClosesFunctions program noted entry functions
-    → CallsArePlain functions → AreSimple functions
-plain_simple program noted derived entry functions closes plain i f e =
+    → AreSimple functions
+are_simple program noted derived entry functions closes i f e =
     instance_simple program noted derived closes.instances (slice_get closes.instances i) f
     (sym (ap (option_map Some) e) ∙ sym (slice_get-map Some functions i)
     ∙ ap (λ l. slice_get l i) closes.closed
-    ∙ slice_get-map (instance_closed program noted closes.instances) closes.instances i) (plain i f e)
+    ∙ slice_get-map (instance_closed program noted closes.instances) closes.instances i)

@@ -236,13 +236,17 @@ module _ (outside : ℕ → Part → Outside) (program : List ModuleParts) (note
 params_outside : (params : List (Labelled Bytes)) (sc inner : Scope) → with_parameters params sc ≡ Ok inner
     → inner.outside ≡ sc.outside
 params_outside [] sc inner e = let same : sc ≡ inner = cc in sym (ap (λ (x : Scope). x.outside) same)
-params_outside (p ∷ rest) sc inner e = by (written_type sc p.of) e
+params_outside (p ∷ rest) sc inner e =
+    by (written_type sc p.of)
+    (λ of. params_outside rest (with_variable (fixed_variable p.name.name of) sc) inner) e
   where
     by : (o : Noting Meaning)
+        → ((of : Meaning) → with_parameters rest (with_variable (fixed_variable p.name.name of) sc) ≡ Ok inner
+        → inner.outside ≡ sc.outside)
         → (o >>= λ of. with_parameters rest (with_variable (fixed_variable p.name.name of) sc)) ≡ Ok inner
         → inner.outside ≡ sc.outside
-    by (Ok of) e = params_outside rest (with_variable (fixed_variable p.name.name of) sc) inner e
-    by (Err why) e = absurd cc
+    by (Ok of) later e = later of e
+    by (Err why) later e = absurd cc
 
 result_outside : (sc inner : Scope) (o : Noting Meaning) → (o >>= λ of. Ok (record sc { result = of })) ≡ Ok inner
     → inner.outside ≡ sc.outside

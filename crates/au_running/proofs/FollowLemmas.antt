@@ -20,7 +20,7 @@ use Rattle.au_running.proofs.OnceLemmas.{closed_fields_are_once, closed_paramete
 use Rattle.au_running.proofs.RunLemmas.{are_followed, means_so, numbers}
 
 module _ (program : List ModuleParts) (noted : List NotedParts) (owner name : Bytes) (c : ClosedProgram)
-    (closes : Closes program noted owner name c) (runnable : IsRunnable program noted c)
+    (closes : Closes program noted owner name c) (runnable : IsRunnable program noted)
     (once : ParametersAreOnce c.functions) (fields : FieldsAreOnce program) where
   run_follows : (input : List ℕ) (ticks : ℕ)
       → ((means program noted closes.entry input ticks).ending ≡ stuck → ⊥)

@@ -22,13 +22,13 @@ use Rattle.au_noting_programs.specs.Faults.{IsDerived}
 use Rattle.au_effects.specs.Parts.{along}
 use Rattle.au_meaning.specs.Views.{Field, Function}
 use Rattle.au_lowering.specs.Closed.{body_seen, row_seen, told_by, told_in}
-use Rattle.au_running.specs.Asked.{AreSimple, CallsArePlain, FieldsAreOnce, ParametersAreOnce}
+use Rattle.au_running.specs.Asked.{AreSimple, FieldsAreOnce, ParametersAreOnce}
 use Rattle.au_running.specs.Followed.{AreFollowed, EntryBegins, functions_in}
 use Rattle.au_running.specs.Formed.{IsFormed}
 use Rattle.au_running.specs.Suits.{EachSuits, are_once, guarded_functions}
 use Rattle.au_running.proofs.AskedLemmas.{block_follows}
 use Rattle.au_running.proofs.ClosedLemmas.{closed_formed}
-use Rattle.au_running.proofs.ConstantLemmas.{plain_simple}
+use Rattle.au_running.proofs.ConstantLemmas.{are_simple}
 use Rattle.au_running.proofs.OrderLemmas.{from_closed, in_order}
 use Rattle.au_lowered.specs.HomeLists.{HomesShared}
 
@@ -118,8 +118,7 @@ all_of numbers c = functions_in (round_in c) numbers c.functions
 module _ (program : List ModuleParts) (noted : List NotedParts) (derived : IsDerived program noted)
     (entry : Instance) (c : ClosedProgram) (closes : ClosesFunctions program noted entry c.functions)
     (types : List ClosedType) (rows : map row_seen c.types ≡ rows_for program types)
-    (plain : CallsArePlain c.functions) (once : ParametersAreOnce c.functions)
-    (fields : FieldsAreOnce program) (numbers : ℕ → ℕ) where
+    (once : ParametersAreOnce c.functions) (fields : FieldsAreOnce program) (numbers : ℕ → ℕ) where
   -- a function is a closed one
   which : (i : ℕ) (g : Function ℕ ClosedNote (Callee ℕ)) → slice_get (all_of numbers c) i ≡ Some g
       → (f : ClosedFunction) × (slice_get c.functions i ≡ Some f) × (function_closed (round_in c) (numbers i) f ≡ g)
@@ -139,7 +138,7 @@ module _ (program : List ModuleParts) (noted : List NotedParts) (derived : IsDer
         (λ home number names e. once number names (sym (names_same c.functions number) ∙ e))
         (λ home of tag all e. fields_once program fields types of tag all
         (sym (ap (λ l. along (row_in l of) (λ (row : Row). fields_at tag row.cases)) rows) ∙ e))
-        c.functions (plain_simple program noted derived entry c.functions closes plain) numbers;
+        c.functions (are_simple program noted derived entry c.functions closes) numbers;
     linear = λ i g e of.
         let f = which i g e in
         linear_same c.types of

@@ -16,16 +16,15 @@ use Rattle.au_low.specs.Runs.{low_run}
 use Rattle.au_lowered.specs.Agreeing.{InStep, event_numbered, ending_numbered}
 use Rattle.au_lowered.specs.Programs.{types_in, type_number}
 use Rattle.au_meaning.specs.Meanings.{mean}
-use Rattle.au_meaning.specs.Views.{Act, Function, View, ships}
+use Rattle.au_meaning.specs.Views.{Function, View}
 use Rattle.au_meaning.specs.Worlds.{Outcome, Value, stuck}
-use Rattle.au_shipped.specs.declared.prims.ShippedCall.{ShippedCall}
 use Rattle.au_lowered.specs.FollowLaws.{Follows}
-use Rattle.au_lowered.specs.Premises.{HasLiteral, Lacks, Once, GoodView, is_plain}
+use Rattle.au_lowered.specs.Premises.{HasLiteral, Lacks, Once, GoodView}
 use Rattle.au_lowered.specs.FollowPrograms.{coding, EntryTakes, GoodFunction, GoodProgram}
 use Rattle.au_lowered.proofs.RunLemmas.{runs_follow}
 use Rattle.au_syntax.specs.Plain.{Bytes}
 use Rattle.au_running.specs.Followed.{AreFollowed, FollowedRunsFollow, GuardedAreGood}
-use Rattle.au_running.specs.Suits.{has_literal, is_lacking, are_once, acts_plainly, is_followed, passing}
+use Rattle.au_running.specs.Suits.{has_literal, is_lacking, are_once, is_followed, passing}
 use Rattle.au_running.specs.Suits.{guarded, guarded_function, guarded_functions}
 use Rattle.au_running.proofs.CodeLemmas.{lowered_same, texts_same, types_same}
 use Rattle.au_running.proofs.MeaningLemmas.{means_same}
@@ -54,10 +53,6 @@ once_each (name ∷ rest) e = (
   lacks_it name rest (and_first (is_lacking name rest) (are_once rest) e),
   once_each rest (and_second (is_lacking name rest) (are_once rest) e),
 )
-
-ships_plainly : (act : Act ℕ) → acts_plainly act ≡ true → (call : ShippedCall) (born : Option ClosedType)
-    → act ≡ ships call born → is_plain call ≡ true
-ships_plainly act e call born is = subst (λ a. acts_plainly a ≡ true) is e
 
 -- what has passed a test passes it
 passed : {A : Type 0} (test : A → Bool) (o : Option A) (a : A) → passing test o ≡ Some a → test a ≡ true
@@ -113,11 +108,7 @@ module _ {T C : Type 0} (told : ClosedType → LowType) (functions : List (Funct
     constants = λ note name value e. literal_there value (passed has_literal
         (see.constant note name) value e);
     parameters = λ note c name one e.
-        once_each one.parameters (and_first (are_once one.parameters) (acts_plainly one.act)
-        (passed is_followed (see.callee note c name) one e));
-    plain_calls = λ note c name one e call born is.
-        ships_plainly one.act (and_second (are_once one.parameters) (acts_plainly one.act)
-        (passed is_followed (see.callee note c name) one e)) call born is;
+        once_each one.parameters (passed is_followed (see.callee note c name) one e);
     linear = λ of type e.
         told_linear told see.is_linear says of
         (slice_get (types_in functions) (type_number (types_in functions) of))

@@ -12,7 +12,6 @@ mod TellLemmas
 mod MutedLemmas
 mod LineLemmas
 mod FollowLemmas
-mod LeadLemmas
 pub mod FrontLemmas
 pub mod AnswerLemmas
 pub mod ShownLemmas

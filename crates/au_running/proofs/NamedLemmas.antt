@@ -150,7 +150,6 @@ module _ {T C : Type 0} (told : ClosedType → LowType) (fn : Function ℕ T C) 
   view_too see v = record {
     constants = λ note name value e. v.constants note name value e;
     parameters = λ note c name one e. v.parameters note c name one e;
-    plain_calls = λ note c name one e call born is. v.plain_calls note c name one e call born is;
     linear = λ of type e.
         v.linear of type
         (sym (ap (λ n. slice_get code.types n) (type_same of (other_there of type e))) ∙ e);

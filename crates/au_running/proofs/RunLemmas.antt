@@ -53,7 +53,7 @@ entry_begins functions input ticks claim f there = by f.parameters refl
         (ap parameters_of there ∙ is)))
 
 module _ (program : List ModuleParts) (noted : List NotedParts) (owner name : Bytes) (c : ClosedProgram)
-    (closes : Closes program noted owner name c) (runnable : IsRunnable program noted c)
+    (closes : Closes program noted owner name c) (runnable : IsRunnable program noted)
     (once : ParametersAreOnce c.functions) (fields : FieldsAreOnce program) where
   says_what_is : SaysWhatIs (counts_by (types_of c.types)) program c.functions (round_in c)
   says_what_is =
@@ -100,7 +100,7 @@ module _ (program : List ModuleParts) (noted : List NotedParts) (owner name : By
       (λ e. claim (ap (λ (o : Outcome). o.ending) (means_so input ticks) ∙ e)) in
       rows_follow program noted runnable.derived (plain_instance closes.entry) c
       closes.functions (types_of c.types) (made_rows program c.functions c.types closes.types)
-      runnable.plain once fields numbers shared begins
+      once fields numbers shared begins
 
   run_shown : Refines (code_of c) (means program noted closes.entry)
   run_shown input limit claim =

@@ -1,6 +1,6 @@
 -- The functions of a closed program that share a number of a declaration are instances of one body, and have
 -- the same slots.
-use Rattle.std.proofs.Common.{◌≡◌, ℕ, zero, suc, ◌+◌, ◌<◌, ◌≤◌, Bool, true, List, [], ◌∷◌, ◌++◌, length, map, Option, Some, None}
+use Rattle.std.proofs.Common.{◌≡◌, ℕ, ◌+◌, ◌<◌, ◌≤◌, Bool, true, List, [], ◌∷◌, ◌++◌, length, map, Option, Some, None}
 use Rattle.std.proofs.Common.{refl, sym, ap, ap₂, subst, ◌∙◌, arith, slice_get}
 use Rattle.std.proofs.lemmas.List.{length-append, length-map}
 use Rattle.std.proofs.lemmas.Option.{slice_get-map}
@@ -16,10 +16,9 @@ use Rattle.au_modules.specs.Programs.{ModuleParts}
 use Rattle.au_judged_types.specs.Meanings.{written_params}
 use Rattle.au_types.specs.Types as whole
 use Rattle.au_types.specs.Types.{Meaning}
-use Rattle.au_type_texts.specs.Types.{ClosedType, ClosedTypes, named, reads, writes}
+use Rattle.au_type_texts.specs.Types.{ClosedType, named, reads, writes}
 use Rattle.au_type_texts.specs.Given.{Given, all_closed_under, closed_under}
 use Rattle.au_closed_trees.specs.ClosedNotes.{Callee, ClosedNote, ClosedStatements}
-use Rattle.au_closed_trees.specs.Notes.{said_in_block}
 use Rattle.au_closed_trees.specs.Renoted.{block_renoted}
 use Rattle.au_closing.specs.Bodies.{BodyOf, body_of}
 use Rattle.au_closing.specs.Closes.{ClosedFunction, ClosesFunctions, body_closed, change_of, instance_closed}
@@ -33,20 +32,19 @@ use Rattle.au_closed_meanings.specs.Surroundings.{Surroundings, field_names, vie
 use Rattle.au_closed_meanings.proofs.EachLemmas.{AllKnown, each_block}
 use Rattle.au_closed_meanings.proofs.SaidLemmas.{block_same}
 use Rattle.au_closed_meanings.proofs.SameStatements.{names_same_block}
-use Rattle.au_lowered.specs.HomeLists.{Declares, HomesShared, NamesAgreeInBlock, SameNames, function_homes}
+use Rattle.au_lowered.specs.HomeLists.{Declares, HomesShared, SameNames, function_homes}
 use Rattle.au_lowered.specs.HomeLists.{homes_of_block, parameter_homes}
 use Rattle.au_lowered.specs.Slots as slots
 use Rattle.au_lowered.specs.Slots.{fields_in, fields_of_case}
 use Rattle.au_lowered.proofs.HomeLemmas.{block_many, parameters_many}
 use Rattle.au_meaning.specs.Names.{names_in_block}
 use Rattle.au_meaning.specs.Views.{Field, Function, View}
-use Rattle.au_typing.specs.Bodies.{GoodBody}
 use Rattle.au_typing.specs.Notes.{Note}
 use Rattle.au_typing.specs.Outsides.{outside_of}
 use Rattle.au_typing.specs.Parts.{cases_told, case_behind}
 use Rattle.au_typing.specs.Scopes.{Case, Outside, Scope, Typed}
 use Rattle.au_typing.specs.Statements.{GoodBlock}
-use Rattle.au_typing.specs.Trees.{NotedParts, NotedStatements}
+use Rattle.au_typing.specs.Trees.{NotedParts}
 use Rattle.au_running.specs.Followed.{functions_in}
 use Rattle.au_running.specs.Suits.{guarded_function, guarded_functions}
 use Rattle.au_running.proofs.CaseNames.{cases_agree, fields_agree}

@@ -2,7 +2,6 @@
 use Rattle.std.proofs.Common.{◌≡◌, ℕ, Bool, true, false, List, ◌++◌, Option, Ok, ap, subst, sym, ◌∙◌}
 use Rattle.std.proofs.Common.{true≢false}
 use Rattle.au_base.specs.declared.limits.Limit.{Limit}
-use Rattle.au_closed_programs.specs.Programs.{ClosedProgram, Closes}
 use Rattle.au_typing.specs.Trees.{NotedParts}
 use Rattle.au_effects.specs.Worlds.{Deed}
 use Rattle.au_low.specs.declared.code.Code.{Code}
@@ -14,7 +13,6 @@ use Rattle.au_modules.specs.Programs.{ModuleParts}
 use Rattle.au_noting_programs.specs.Faults.{IsDerived}
 use Rattle.au_rules.specs.Good.{AllDeclarationsAreGood}
 use Rattle.au_runs.specs.Calls.{IsCut}
-use Rattle.au_running.specs.Asked.{CallsArePlain}
 use Rattle.au_running.specs.Came.{CodeEnds, CodeCompletes}
 use Rattle.au_running.specs.Coded.{HasCode}
 use Rattle.au_running.specs.Lines.{deeds_told}
@@ -71,8 +69,8 @@ module _ (program : List ModuleParts) (noted : List NotedParts) (owner name : By
   as_meant derived declared life ran lines steps told left out out' it run = record {
     it = it;
     run = run;
-    shows = it.meant (record { derived = derived; declared = declared; plain = it.plain });
-    tells = it.tells (record { derived = derived; declared = declared; plain = it.plain });
+    shows = it.meant (record { derived = derived; declared = declared });
+    tells = it.tells (record { derived = derived; declared = declared });
   }
 
   -- what the lines of its events show, where they are asked for
@@ -105,14 +103,12 @@ module _ (program : List ModuleParts) (noted : List NotedParts) (owner name : By
       }
 
   module _ (law : LoweredProgramsRun) (also : LoweredProgramsTell)
-      (are_plain : (c : ClosedProgram) → Closes program noted owner name c → CallsArePlain c.functions)
       (code : Code) (has : HasCode program noted owner name (Ok code)) where
     -- the program is lowered to its code
     abbrev lowered : IsLowered program noted owner name
     lowered = record {
       c = has.0;
       closes = has.1;
-      plain = are_plain has.0 has.1.closes;
       short = has.2;
       meant = law program noted owner name has.0 has.1.closes;
       tells = also program noted owner name has.0 has.1.closes;

@@ -1,6 +1,6 @@
 -- What is taken apart in a body that is typed has fields of the same names, whatever closed types are given.
 use Rattle.std.proofs.Common.{◌≡◌, Bool, List, [], ◌∷◌, Some, Ok, Err, refl, sym, ap, ◌∙◌}
-use Rattle.au_syntax.specs.Expressions.{Expression, number, negative, text, truth, nil, path, arrow, call, named_call}
+use Rattle.au_syntax.specs.Expressions.{number, negative, text, truth, nil, path, arrow, call, named_call}
 use Rattle.au_syntax.specs.Expressions.{parenthesized, dereference, borrow, borrow_part, binary, negation, typed, choice}
 use Rattle.au_syntax.specs.Plain.{Bytes}
 use Rattle.au_syntax.specs.Statements.{skip, declare, destructure, assign, assign_through, conditional}

@@ -116,7 +116,7 @@ good_tells told functions good input limit unstuck =
 -- ---- of closed programs
 
 module _ (program : List ModuleParts) (noted : List NotedParts) (owner name : Bytes) (c : ClosedProgram)
-    (closes : Closes program noted owner name c) (runnable : IsRunnable program noted c)
+    (closes : Closes program noted owner name c) (runnable : IsRunnable program noted)
     (once : ParametersAreOnce c.functions) (fields : FieldsAreOnce program) where
   run_tells : TellsMeant (type_words c.types) (code_of c) (means program noted closes.entry)
   run_tells input limit claim =

@@ -21,7 +21,7 @@ use Rattle.au_lowered.specs.FollowLaws.{Follows}
 use Rattle.au_lowered.specs.HomeLists.{HomesShared}
 use Rattle.au_lowered.specs.Premises.{GoodView}
 use Rattle.au_lowered.specs.FollowPrograms.{coding, EntryTakes, GoodProgram}
-use Rattle.au_running.specs.Asked.{CallsArePlain, FieldsAreOnce, ParametersAreOnce}
+use Rattle.au_running.specs.Asked.{FieldsAreOnce, ParametersAreOnce}
 use Rattle.au_running.specs.Formed.{IsFormed}
 use Rattle.au_running.specs.Suits.{EachSuits, guarded_functions}
 
@@ -56,7 +56,7 @@ module _ (T C : Type 0) where
 
 -- ---- closed programs
 
--- No closed view is good as it stands, since it says of notes that are in no tree what their calls would do.
+-- No closed view is good as it stands, since it says of notes that are in no tree which constants they mention.
 -- So it is guarded: code that follows a tree needs no more than the tree notes.
 abbrev pub NoClosedViewIsGood : Type 0
 NoClosedViewIsGood =
@@ -77,8 +77,7 @@ functions_of program numbers functions = functions_in (surroundings_of program f
 
 -- A run of the code that a derived program is lowered to, from the functions that it closes to, does what the
 -- noted program means, where that isn't stuck. This is asked besides: parameters and fields have names of
--- their own, shipped calls are plain, a type is told as linear where the program says so, and the entry has
--- no parameter but the root. No number is that of two declarations, as with the numbers of `first_name`.
+-- their own, a type is told as linear where the program says so, and the entry has no parameter but the root. No number is that of two declarations, as with the numbers of `first_name`.
 abbrev pub DerivedProgramsFollow : Type 0
 DerivedProgramsFollow =
     (program : List ModuleParts) (noted : List NotedParts) → IsDerived program noted
@@ -87,7 +86,7 @@ DerivedProgramsFollow =
     → (first : Instance → ℕ) (numbers : ℕ → ℕ) → NumberAlike closes.instances first numbers
     → NumbersApart program noted first
     → (told : ClosedType → LowType) → ((of : ClosedType) → (told of).linear ≡ linear_in program of)
-    → ParametersAreOnce functions → FieldsAreOnce program → CallsArePlain functions
+    → ParametersAreOnce functions → FieldsAreOnce program
     → EntryBegins told (functions_of program numbers functions)
     → (input : List ℕ) (ticks : ℕ)
     → ((mean (generic_functions program noted first) entry input ticks).ending ≡ stuck → ⊥)

@@ -17,7 +17,7 @@ use Rattle.au_syntax.specs.Plain.{Bytes}
 abbrev pub LoweredProgramsFollow : Type 0
 LoweredProgramsFollow =
     (program : List ModuleParts) (noted : List NotedParts) (owner name : Bytes) (c : ClosedProgram)
-    → (closes : Closes program noted owner name c) → IsRunnable program noted c
+    → (closes : Closes program noted owner name c) → IsRunnable program noted
     → (input : List ℕ) (ticks : ℕ)
     → ((means program noted closes.entry input ticks).ending ≡ stuck → ⊥)
     → Follows (told_in c.types) (functions_numbered (numbers_of program noted closes.functions.instances) c) input

@@ -58,7 +58,7 @@ pub record IsStuckAsMeant (meant : List ℕ → ℕ → Outcome) (ticks : ℕ) (
 abbrev pub OfLoweredPrograms : (Code → (List ℕ → ℕ → Outcome) → Type 0) → Type 0
 OfLoweredPrograms P =
     (program : List ModuleParts) (noted : List NotedParts) (owner name : Bytes) (c : ClosedProgram)
-    → (closes : Closes program noted owner name c) → IsRunnable program noted c
+    → (closes : Closes program noted owner name c) → IsRunnable program noted
     → P (code_of c) (means program noted closes.entry)
 
 -- ---- the laws

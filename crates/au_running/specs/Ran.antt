@@ -13,7 +13,6 @@ use Rattle.au_low.specs.Runs.{low_run}
 use Rattle.au_lowering.specs.Answers.{too_long}
 use Rattle.au_lowering.specs.Closed.{code_of, is_too_long}
 use Rattle.au_meaning.specs.Worlds.{stuck}
-use Rattle.au_running.specs.Asked.{CallsArePlain}
 use Rattle.au_running.specs.Came.{CodeEnds, CodeCompletes}
 use Rattle.au_running.specs.Meant.{means}
 use Rattle.au_running.specs.Runs.{IsRunnable, Refines}
@@ -43,17 +42,16 @@ module _ (program : List ModuleParts) (noted : List NotedParts) (owner name : By
       ⊎ ((c : ClosedProgram) × ClosesWithin program noted owner name c × (is_too_long c ≡ true)
       × (limit ≡ too_long))
 
-  -- The program is lowered to the code of this: it closes to it from its entry within the limits, each
-  -- shipped call in it is plain, and its code isn't too long. Where its runs are spoken of, every run of that
-  -- code shows what the program means from its entry, and so do its events.
+  -- The program is lowered to the code of this: it closes to it from its entry within the limits, and its
+  -- code isn't too long. Where its runs are spoken of, every run of that code shows what the program means
+  -- from its entry, and so do its events.
   pub record IsLowered : Type 0 where
     pub c : ClosedProgram
     pub closes : ClosesWithin program noted owner name c
-    pub plain : CallsArePlain c.functions
     pub short : is_too_long c ≡ false
-    pub meant : IsRunnable program noted c
+    pub meant : IsRunnable program noted
         → Refines (code_of c) (means program noted closes.closes.entry)
-    pub tells : IsRunnable program noted c
+    pub tells : IsRunnable program noted
         → TellsMeant (type_words c.types) (code_of c) (means program noted closes.closes.entry)
 
   -- The program ran as code, and its run was cut off: a front of what the code writes within so many steps

@@ -7,7 +7,6 @@ use Rattle.au_typing.specs.Trees.{NotedParts}
 use Rattle.au_rules.specs.Good.{AllDeclarationsAreGood}
 use Rattle.au_noting_programs.specs.Faults.{IsDerived}
 use Rattle.au_closed_programs.specs.Programs.{ClosedProgram, Closes}
-use Rattle.au_running.specs.Asked.{CallsArePlain}
 use Rattle.au_low.specs.declared.code.Code.{Code}
 use Rattle.au_low.specs.declared.endings.Ending.{Ending}
 use Rattle.au_low.specs.declared.endings.Ending.TheVariants as ending
@@ -49,17 +48,14 @@ Refines code meant =
     (input : List ℕ) (limit : ℕ) → ((meant input limit).ending ≡ stuck → ⊥)
     → RefinesOn code (meant input) input limit
 
--- What is asked of a program whose runs are spoken of: it is derived, its declarations are good, and what it
--- closes to calls none of the shipped functions of boxes, buffers and the terminal.
-pub record IsRunnable (program : List ModuleParts) (noted : List NotedParts) (c : ClosedProgram)
-    : Type 0 where
+-- What is asked of a program whose runs are spoken of: it is derived, and its declarations are good.
+pub record IsRunnable (program : List ModuleParts) (noted : List NotedParts) : Type 0 where
   pub derived : IsDerived program noted
   pub declared : AllDeclarationsAreGood program
-  pub plain : CallsArePlain c.functions
 
 -- Every run of the code that a program is lowered to shows what the program means from its entry.
 abbrev pub LoweredProgramsRun : Type 0
 LoweredProgramsRun =
     (program : List ModuleParts) (noted : List NotedParts) (owner name : Bytes) (c : ClosedProgram)
-    → (closes : Closes program noted owner name c) → IsRunnable program noted c
+    → (closes : Closes program noted owner name c) → IsRunnable program noted
     → Refines (code_of c) (means program noted closes.entry)

@@ -4,9 +4,8 @@ use Rattle.std.specs.Prelude.{if◌then◌else◌}
 use Rattle.std.specs.Str.{bytes_eq}
 use Rattle.au_effects.specs.Values as values
 use Rattle.au_ints.specs.Ranges.{is_of_kind}
-use Rattle.au_meaning.specs.Views.{Act, Callee, Function, View, invokes, makes, ships}
+use Rattle.au_meaning.specs.Views.{Callee, Function, View}
 use Rattle.au_meaning.specs.Worlds.{Value}
-use Rattle.au_lowered.specs.Premises.{is_plain}
 use Rattle.au_syntax.specs.Expressions.{Expression, Expressions, Arguments, number, negative, text, truth}
 use Rattle.au_syntax.specs.Expressions.{nil, path, arrow, call, named_call, parenthesized, dereference}
 use Rattle.au_syntax.specs.Expressions.{borrow, borrow_part, binary, negation, typed, choice, no_expressions}
@@ -36,15 +35,9 @@ abbrev pub are_once : List Bytes → Bool
 are_once [] = true
 are_once (name ∷ rest) = is_lacking name rest && are_once rest
 
--- whether a call is plain, if it is a shipped one
-abbrev pub acts_plainly : Act ℕ → Bool
-acts_plainly (invokes function) = true
-acts_plainly (makes of tag home) = true
-acts_plainly (ships prim born) = is_plain prim
-
--- whether code can follow a call: its parameters have names of their own, and it is plain
+-- whether code can follow a call: its parameters have names of their own
 abbrev pub is_followed : Callee ℕ → Bool
-is_followed one = are_once one.parameters && acts_plainly one.act
+is_followed one = are_once one.parameters
 
 -- whether something passes a test, if it is there; and it, if it does
 abbrev pub passes : {A : Type 0} → (A → Bool) → Option A → Bool

@@ -58,5 +58,5 @@ module _ (words : ClosedType → Bytes) where
 abbrev pub LoweredProgramsTell : Type 0
 LoweredProgramsTell =
     (program : List ModuleParts) (noted : List NotedParts) (owner name : Bytes) (c : ClosedProgram)
-    → (closes : Closes program noted owner name c) → IsRunnable program noted c
+    → (closes : Closes program noted owner name c) → IsRunnable program noted
     → TellsMeant (type_words c.types) (code_of c) (means program noted closes.entry)

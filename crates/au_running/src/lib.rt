@@ -2,16 +2,14 @@
 //!
 //! `specs/Ran.antt` says what a call has done, by the code that the program is lowered to, and what that
 //! shows of what the program means. The laws say that runs of lowered code show what the program means from
-//! its entry (`laws`), that the functions that a derived program closes to are such as lowered code can follow
-//! (`good_programs`), and that a program whose calls lead to plain shipped functions alone closes to such
-//! (`plain_laws`).
+//! its entry (`laws`), and that the functions that a derived program closes to are such as lowered code can
+//! follow (`good_programs`).
 #![tactic(auto)]
 
 mod coding;
 mod ends;
 pub mod good_programs;
 pub mod laws;
-pub mod plain_laws;
 mod ran;
 mod running;
 mod telling;

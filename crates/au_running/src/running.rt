@@ -4,7 +4,6 @@ ghost use Rattle.std.specs.Prelude.{◌≡◌, ◌⊎◌, false, List, IfOk, OnE
 ghost use Rattle.au_typing.specs.Trees.{NotedParts};
 ghost use Rattle.au_modules.specs.Slots as slots;
 ghost use Rattle.au_noting_programs.specs.Faults.{IsDerived};
-ghost use Rattle.au_running.specs.Asked.{ClosesPlainly};
 ghost use Rattle.au_running.specs.Ran.{ProgramEnds, ProgramIsCut, IsIdle, is_read_fault, is_write_fault};
 ghost use Rattle.au_runs.specs.Calls.{Rose};
 
@@ -17,8 +16,7 @@ use au_noting_programs::NotedProgram;
 use std::alloc::Global;
 
 /// Runs an accepted program from the entry that is named by its module and its own name, for at most so many
-/// steps, on an input and a sink, and tells the lines of its events where these are asked for. What it closes to from there must call no shipped function of boxes,
-/// buffers or the terminal.
+/// steps, on an input and a sink, and tells the lines of its events where these are asked for.
 ///
 /// # Errors
 ///
@@ -32,7 +30,6 @@ pub fn run_program<I: Source, O: Sink>(
     input: &mut I,
     out: &mut O,
 ) -> Result<Report, Memory>
-    requires { ClosesPlainly (slots.modules program.now) entry.now.module entry.now.function }
     ensures ran { IfOk result (λ report. (noted : List NotedParts)
         × IsDerived (slots.modules program.now) noted
         × ProgramEnds (slots.modules program.now) noted entry.now.module entry.now.function life report.ran

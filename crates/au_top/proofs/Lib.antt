@@ -5,4 +5,3 @@ pub mod RunLemmas
 pub mod EndLemmas
 pub mod EnteredLemmas
 pub mod AnsweredLemmas
-pub mod PlainLemmas

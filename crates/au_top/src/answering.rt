@@ -6,8 +6,6 @@ ghost use Rattle.au_base.specs.Outside.{HasRisen, Adds, AddsFront};
 ghost use Rattle.au_explain.specs.Lines.{life_text};
 ghost use Rattle.au_top.specs.Calls.{Fails, Pays};
 ghost use Rattle.au_outcomes.specs.Outcomes.{is_outcome};
-ghost use Rattle.au_running.specs.Asked.{ClosesPlainly};
-ghost use Rattle.au_syntax.specs.Plain.{Bytes};
 ghost use Rattle.au_top.specs.Dues.{due_of};
 ghost use Rattle.au_top.specs.Ends.{IfRuns, RunAnswers};
 ghost use Rattle.au_top.specs.Streams.{AreQuiet, HasStayed, source_of, streams};
@@ -58,8 +56,7 @@ fn put_lives<O: Sink>(alloc: Global, lives: &Lives, out: &mut O) -> Result<Statu
 }
 
 /// Does what is due for an outcome: a line is written on `err`, or that the program is accepted or the lives
-/// of its variables on `out`, or the program is run. What a program to run closes to must call no shipped
-/// function of boxes, buffers or the terminal.
+/// of its variables on `out`, or the program is run.
 pub fn answer<I: Source, O: Sink, E: Sink>(
     alloc: Global,
     asked: &Asked,
@@ -68,8 +65,7 @@ pub fn answer<I: Source, O: Sink, E: Sink>(
     out: &mut O,
     err: &mut E,
 ) -> Result<Status, AnswerFault>
-    requires outcome { IsTrue (is_outcome outcome.now) }
-    requires plain { IfRuns outcome.now (λ program. (owner name : Bytes) → ClosesPlainly program owner name) }
+    requires { IsTrue (is_outcome outcome.now) }
     ensures pays { IfSome (due_of (map string_bytes asked.now.files.items) outcome.now)
         (λ due. IfOk result (λ status. Pays due status
         (streams I.Source O.Sink E.Sink input.old input.new out.old out.new err.old err.new))) }

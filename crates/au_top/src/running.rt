@@ -5,9 +5,7 @@ ghost use Rattle.au_base.specs.Outside.{Adds, AddsFront, HasRisen};
 ghost use Rattle.au_modules.specs.Slots as slots;
 ghost use Rattle.au_outcomes.specs.Lines.{refusal_line};
 ghost use Rattle.au_outcomes.specs.Refusals.{is_refusal};
-ghost use Rattle.au_running.specs.Asked.{ClosesPlainly};
 ghost use Rattle.au_running.specs.Ran.{is_write_fault};
-ghost use Rattle.au_syntax.specs.Plain.{Bytes};
 ghost use Rattle.au_top.specs.Ends.{RunAnswers};
 ghost use Rattle.au_top.specs.Runs as runs;
 ghost use Rattle.au_top.specs.Streams.{streams};
@@ -22,7 +20,7 @@ use au_running::{Ran, Report, run_program};
 use std::alloc::Global;
 
 /// Runs a program from its entry, and writes on `err` the lines of its events, if these are asked for, and
-/// the line that is due behind the run, if one is. What it closes to must call no shipped function of boxes, buffers or the terminal.
+/// the line that is due behind the run, if one is.
 ///
 /// # Errors
 ///
@@ -36,7 +34,6 @@ pub fn run<I: Source, O: Sink, E: Sink>(
     out: &mut O,
     err: &mut E,
 ) -> Result<Status, AnswerFault>
-    requires { (owner name : Bytes) → ClosesPlainly (slots.modules program.now) owner name }
     ensures { RunAnswers result
         (streams I.Source O.Sink E.Sink input.old input.new out.old out.new err.old err.new)
         (record {

@@ -15,9 +15,7 @@ use crate::answering::{Asked, answer};
 use crate::asking::asked_of;
 use crate::saying::{AnswerFault, READ_FAULT_LINE};
 use au_base::{Shelf, Sink, Source, Status, WriteFault, put_all};
-use au_closing_laws::gathered::calls_of_built_programs_are_plain;
 use au_outcomes::{CheckFault, Outcome, Refusal, check};
-use au_running::plain_laws::plain_leads_close_plainly;
 use au_words::{Job, WordsFault, read_words};
 use std::alloc::Global;
 
@@ -64,8 +62,6 @@ fn ended<S: Shelf, I: Source, O: Sink, E: Sink>(
         → (S.faults shelf.new ≡ S.faults shelf.old) × (S.misses shelf.new ≡ S.misses shelf.old) }
     ensures files { S.files shelf.new ≡ S.files shelf.old }
 {
-    calls_of_built_programs_are_plain();
-    plain_leads_close_plainly();
     match outcome_of(alloc, words, shelf) {
         Ok((asked, outcome)) => { status_of(answer(alloc, &asked, &outcome, input, out, err)) }
         Err(fault) => fault_status(fault, err),

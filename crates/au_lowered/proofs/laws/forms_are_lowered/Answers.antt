@@ -54,6 +54,11 @@ returns c = record {
     agrees = record { ending = refl; output = refl; left = refl; events = refl };
     steps = record { least = refl; most = refl };
   };
+  in_filling = record {
+    is = refl;
+    agrees = record { ending = refl; output = refl; left = refl; events = refl };
+    steps = record { least = refl; most = refl };
+  };
   pieces = record {
     of_unit = refl;
     of_truth = refl;

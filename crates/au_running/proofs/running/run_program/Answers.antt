@@ -53,7 +53,7 @@ returns-in-Ok-clause-ran g c =
       has.0,
       has.1,
       came_so program has.0 owner name c.lowered_programs_run.ensures c.lowered_programs_tell.ensures
-          (c.requires has.0 has.1) c.in-Ok.code has.2 c.args.life report.ran report.events.items
+          c.in-Ok.code has.2 c.args.life report.ran report.events.items
           c.args.steps told left out out' came,
     ))
     c.run_code.ensures.came
@@ -75,7 +75,7 @@ returns-in-Ok-clause-broken g c =
       has.0,
       has.1,
       cut_so program has.0 owner name c.lowered_programs_run.ensures c.lowered_programs_tell.ensures
-          (c.requires has.0 has.1) c.in-Ok.code has.2
+          c.in-Ok.code has.2
           c.args.steps told out out' cut,
     ))
     c.run_code.ensures.cut

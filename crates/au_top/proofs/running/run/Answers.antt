@@ -7,10 +7,6 @@ use Rattle.au_top.specs.Streams.{Streams, streams}
 use Rattle.au_top.proofs.RunLemmas.{has_ran, idle_stopped, run_cut, run_said, run_stopped}
 use Rattle.au_top.proofs.running.run.Goals as goal
 
--- the program closes to what calls plain functions alone, from its entry as from each
-pub run_program-requires : goal.run_program-requires
-run_program-requires g c = c.requires c.in_ok-entry.entry.«module» c.in_ok-entry.entry.function
-
 pub returns-in_err-entry : goal.returns-in_err-entry
 returns-in_err-entry g c =
     let p = err_from_is_err_and c.from_residual.result c.from_residual.ensures.1 in

@@ -5,20 +5,12 @@ use Rattle.au_top.specs.Calls.{shelf_of}
 use Rattle.au_top.specs.Streams.{streams}
 use Rattle.au_top.proofs.AnsweredLemmas.{answered, unanswered}
 use Rattle.au_top.proofs.ArisesLemmas.{arises_outcome}
-use Rattle.au_top.proofs.PlainLemmas.{arises_plain}
 use Rattle.au_top.proofs.top.ended.Goals as goal
 
-pub answer-requires-clause-outcome : goal.answer-requires-clause-outcome
-answer-requires-clause-outcome g c =
+pub answer-requires : goal.answer-requires
+answer-requires g c =
     let found = c.in-Ok.ensures.arises in
     arises_outcome (map string_bytes c.args.words.now) found.0 (map string_bytes c.in-Ok.asked.files.items)
-    c.in-Ok.outcome found.2
-
-pub answer-requires-clause-plain : goal.answer-requires-clause-plain
-answer-requires-clause-plain g c =
-    let found = c.in-Ok.ensures.arises in
-    arises_plain c.calls_of_built_programs_are_plain.ensures c.plain_leads_close_plainly.ensures
-    (map string_bytes c.args.words.now) found.0 (map string_bytes c.in-Ok.asked.files.items)
     c.in-Ok.outcome found.2
 
 pub returns-in-Ok-clause-ends : goal.returns-in-Ok-clause-ends
