@@ -250,7 +250,6 @@ judged_before files x h = elim (or_some (judged_by module_outcome (programs.refu
 ]
 
 run_behind : (reads : List ReadFile) (x : Outcome) → RunComes reads x → is_behind x ≡ true
-run_behind reads (outcome.Refused (refusal.NotYet at)) h = refl
 run_behind reads (outcome.Runs program) h = refl
 run_behind reads other h = absurd h
 

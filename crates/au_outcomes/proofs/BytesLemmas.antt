@@ -14,7 +14,6 @@ use Rattle.au_program_lives.specs.LinearFaults.{linear_fault}
 use Rattle.au_rules.specs.declared.faults.DeclFault.TheVariants as rules
 use Rattle.au_rules.specs.DeclFaults.{decl_fault}
 use Rattle.au_outcomes.specs.Outcomes.{BytesCome}
-use Rattle.au_unbuilt.specs.Unbuilt.{unbuilt_of}
 use Rattle.au_outcomes.specs.Programs.{AcceptedCome, AreOne, ReadsCome, RunComes}
 use Rattle.au_outcomes.specs.Programs.{bodies_outcome, class_outcome, declaration_outcome, import_outcome, judged_by}
 use Rattle.au_outcomes.specs.Programs.{life_outcome, module_outcome, modules_outcome, program_files, program_modules}
@@ -55,14 +54,7 @@ some_or_none o x a b = let e : Some x ≡ None = sym a ∙ b in cc
 
 -- what an accepted program comes to that is asked to run is one thing
 run_same : (reads : List ReadFile) (x y : Outcome) → RunComes reads x → RunComes reads y → AreOne x y
-run_same reads (outcome.Refused (refusal.NotYet at)) (outcome.Refused (refusal.NotYet other)) a b =
-    ap (λ p. outcome.Refused (refusal.NotYet p)) (one_some (unbuilt_of (program_modules reads)) at other a b)
-run_same reads (outcome.Refused (refusal.NotYet at)) (outcome.Runs program) a b =
-    absurd (some_or_none (unbuilt_of (program_modules reads)) at a b.0)
-run_same reads (outcome.Runs program) (outcome.Refused (refusal.NotYet at)) a b =
-    absurd (some_or_none (unbuilt_of (program_modules reads)) at b a.0)
-run_same reads (outcome.Runs program) (outcome.Runs other) a b = a.1 ∙ sym b.1
-run_same reads (outcome.Refused (refusal.NotYet at)) other a b = absurd b
+run_same reads (outcome.Runs program) (outcome.Runs other) a b = a ∙ sym b
 run_same reads (outcome.Runs program) other a b = absurd b
 run_same reads other y a b = absurd a
 
@@ -135,7 +127,6 @@ program_found files x h = elim (or_some (judged_by module_outcome (programs.refu
 ]
 
 run_found : (reads : List ReadFile) (x : Outcome) → RunComes reads x → is_of_files x ≡ true
-run_found reads (outcome.Refused (refusal.NotYet at)) h = refl
 run_found reads (outcome.Runs program) h = refl
 run_found reads other h = absurd h
 

@@ -9,10 +9,6 @@ use Rattle.au_imports.specs.Good.{AllNamesAreGood}
 use Rattle.au_explain.specs.Faults.{IsDerived}
 use Rattle.au_program_lives.specs.Good.{AllLivesAreGood}
 use Rattle.au_promises.specs.Fulfilled.{AllFulfil}
-use Rattle.au_outcomes.specs.declared.refusals.Refusal.{Refusal}
-use Rattle.au_outcomes.specs.declared.refusals.Refusal.TheVariants.{Byte, Syntax, NotYet, WordNotYet}
-use Rattle.au_outcomes.specs.declared.refusals.Refusal.TheVariants.{Pair, Import, Declaration, Instance}
-use Rattle.au_outcomes.specs.declared.refusals.Refusal.TheVariants.{Typing, Linear, Entry, Stuck}
 use Rattle.au_rules.specs.Good.{AllDeclarationsAreGood}
 use Rattle.au_outcomes.specs.Outcomes.{AreFiles, most_files}
 use Rattle.au_outcomes.specs.Programs.{program_files, program_modules}
@@ -42,28 +38,13 @@ pub record AreAcceptedAs (files : Files) (names all : List (List ℕ)) (reads : 
 abbrev pub Accepted : Files → List (List ℕ) → Type 0
 Accepted files names = (all : List (List ℕ)) × (reads : List ReadFile) × AreAcceptedAs files names all reads
 
--- whether a program is refused for what isn't built yet
-abbrev pub is_unbuilt : Refusal → Bool
-is_unbuilt (Byte at) = false
-is_unbuilt (Syntax at) = false
-is_unbuilt (NotYet at) = true
-is_unbuilt (WordNotYet what) = false
-is_unbuilt (Pair fault) = false
-is_unbuilt (Import fault) = false
-is_unbuilt (Declaration fault) = false
-is_unbuilt (Instance fault) = false
-is_unbuilt (Typing fault) = false
-is_unbuilt (Linear fault) = false
-is_unbuilt (Entry entry) = false
-is_unbuilt Stuck = false
-
 -- whether files come to this behind the steps that judge whether they are accepted: that is told, or the
--- lives of its variables are, or the program is to run, or a name in it is refused as what isn't built yet
+-- lives of its variables are, or the program is to run
 abbrev pub is_behind : Outcome → Bool
 is_behind outcome.NoJob = false
 is_behind (outcome.Missing name) = false
 is_behind (outcome.Passes limit) = false
-is_behind (outcome.Refused refusal) = is_unbuilt refusal
+is_behind (outcome.Refused refusal) = false
 is_behind outcome.Accepted = true
 is_behind (outcome.Explained lives) = true
 is_behind (outcome.Runs program) = true

@@ -22,7 +22,7 @@ use Rattle.au_outcomes.specs.declared.refusals.Unbuilt.TheVariants as unbuilt
 use Rattle.au_rules.specs.declared.faults.DeclFault.{DeclFault}
 use Rattle.au_rules.specs.declared.faults.DeclFault.TheVariants as rules
 use Rattle.au_outcomes.specs.declared.refusals.Refusal.{Refusal}
-use Rattle.au_outcomes.specs.declared.refusals.Refusal.TheVariants.{Byte, Syntax, NotYet, WordNotYet}
+use Rattle.au_outcomes.specs.declared.refusals.Refusal.TheVariants.{Byte, Syntax, WordNotYet}
 use Rattle.au_outcomes.specs.declared.refusals.Refusal.TheVariants.{Pair, Import, Declaration, Instance}
 use Rattle.au_outcomes.specs.declared.refusals.Refusal.TheVariants.{Typing, Linear, Entry, Stuck}
 
@@ -153,7 +153,6 @@ stuck_text = codes "stuck"
 abbrev pub refusal_text : List (List ℕ) → Refusal → List ℕ
 refusal_text names (Byte at) = place_text names at ++ codes ": byte"
 refusal_text names (Syntax at) = place_text names at ++ codes ": syntax"
-refusal_text names (NotYet at) = place_text names at ++ codes ": not yet"
 refusal_text names (WordNotYet what) = codes "not yet: " ++ unbuilt_word what
 refusal_text names (Pair fault) = pair_text names fault
 refusal_text names (Import fault) = import_text names fault

@@ -1,7 +1,6 @@
 -- What the files of a program come to once they are read: they are gathered into modules behind the shipped
 -- ones, the names and promises of the modules are judged, then their declarations, then their instances, then
--- the types in bodies, and then the lives of variables. Where all of this is good the program is accepted;
--- and where it is to run, it may name nothing that isn't built yet.
+-- the types in bodies, and then the lives of variables. Where all of this is good the program is accepted.
 use Rattle.std.specs.Prelude.{◌≡◌, ◌⊎◌, ◌+◌, ℕ, List, [], ◌∷◌, ◌++◌, map, Option, None, Some}
 use Rattle.std.specs.Option.{option_or}
 use Rattle.au_explain.specs.declared.lists.Lives.{Lives}
@@ -28,7 +27,6 @@ use Rattle.au_program_lives.specs.LinearFaults.{linear_fault}
 use Rattle.au_rules.specs.declared.faults.DeclFault.{DeclFault}
 use Rattle.au_rules.specs.declared.faults.DeclFault.TheVariants as rules
 use Rattle.au_rules.specs.DeclFaults.{decl_fault}
-use Rattle.au_unbuilt.specs.Unbuilt.{unbuilt_of}
 use Rattle.au_outcomes.specs.Trees.{ReadFile}
 use Rattle.au_outcomes.specs.declared.outcomes.Aim.{Aim}
 use Rattle.au_outcomes.specs.declared.outcomes.Aim.TheVariants as aims
@@ -109,12 +107,9 @@ program_outcome files =
     option_or (judged_by module_outcome (programs.refusal_of files))
     (modules_outcome (modules_of files))
 
--- What an accepted program of files that were read comes to that is asked to run: the first form in it that
--- isn't built yet is refused, and where there is none the program is to run.
+-- What an accepted program of files that were read comes to that is asked to run: it is to run.
 abbrev pub RunComes : List ReadFile → Outcome → Type 0
-RunComes reads (outcome.Refused (refusal.NotYet at)) = unbuilt_of (program_modules reads) ≡ Some at
-RunComes reads (outcome.Runs program) =
-    (unbuilt_of (program_modules reads) ≡ None) × (slots.modules program ≡ program_modules reads)
+RunComes reads (outcome.Runs program) = slots.modules program ≡ program_modules reads
 RunComes reads other = ⊥
 
 -- Nothing is refused of files, and these are their modules.
@@ -126,8 +121,7 @@ abbrev pub read_lives : List ReadFile → Lives
 read_lives reads = program_lives (program_modules reads)
 
 -- What accepted files come to: where no more is asked they are accepted, where they are explained they come
--- to the lives of their variables, and where their program is to run that is what they come to, or a form in
--- it isn't built yet.
+-- to the lives of their variables, and where their program is to run that is what they come to.
 abbrev pub AcceptedCome : Aim → List ReadFile → Outcome → Type 0
 AcceptedCome aims.Run reads arisen = RunComes reads arisen
 AcceptedCome aims.Check reads arisen = arisen ≡ outcome.Accepted

@@ -8,13 +8,12 @@ ghost use Rattle.au_modules.specs.Programs.{entry};
 ghost use Rattle.au_modules.specs.Slots as slots;
 ghost use Rattle.au_outcomes.specs.Halts.{Says, is_read_halt};
 ghost use Rattle.au_outcomes.specs.Outcomes.{most_files};
-ghost use Rattle.au_outcomes.specs.Programs.{AcceptedCome, AreJudgedAs, RunComes, bodies_outcome};
+ghost use Rattle.au_outcomes.specs.Programs.{AcceptedCome, AreJudgedAs, bodies_outcome};
 ghost use Rattle.au_outcomes.specs.Programs.{modules_outcome, program_modules, program_outcome};
 ghost use Rattle.au_outcomes.specs.Programs.{shipped_entries};
 ghost use Rattle.au_outcomes.specs.Trees.{ReadFile};
 ghost use Rattle.au_outcomes.specs.declared.outcomes.Outcome.TheVariants as outcome;
 
-use crate::Refusal;
 use crate::halts::Halt;
 use crate::outcomes::{Aim, Outcome};
 use au_base::Memory;
@@ -26,7 +25,6 @@ use au_program_lives::check_linear;
 use au_rules::declarations_hold;
 use au_shipped::shipped;
 use au_syntax::FileTree;
-use au_unbuilt::first_unbuilt;
 use std::alloc::Global;
 
 /// Judges the files of a program, and then their modules. An accepted program comes with its notes.
@@ -90,7 +88,7 @@ fn with_shipped(alloc: Global, own: Vec<FileTree>) -> Result<Vec<FileTree>, Memo
 
 /// What accepted files come to whose program is this: where no more is asked they are accepted, where they
 /// are explained they come to the lives of their variables, and where their program is to run that is what
-/// they come to, or it names what isn't built yet.
+/// they come to.
 pub fn accepted_outcome(alloc: Global, aim: Aim, noted: NotedProgram) -> Result<Outcome, Halt>
     ensures comes { (reads : List ReadFile) → slots.modules noted ≡ program_modules reads
         → Says result (AcceptedCome aim reads) (AcceptedCome aim reads) }
@@ -99,7 +97,7 @@ pub fn accepted_outcome(alloc: Global, aim: Aim, noted: NotedProgram) -> Result<
     match aim {
         Aim::Check => Ok(Outcome::Accepted),
         Aim::Explain => explained(alloc, &noted),
-        Aim::Run => Ok(to_run(noted)),
+        Aim::Run => Ok(Outcome::Runs(noted)),
     }
 }
 
@@ -112,15 +110,4 @@ fn explained(alloc: Global, noted: &NotedProgram) -> Result<Outcome, Halt>
 {
     let lives = lives_of(alloc, noted)?;
     Ok(Outcome::Explained(lives))
-}
-
-/// An accepted program that is asked to run: the first name in it of what isn't built yet is refused, and
-/// where there is none the program is to run.
-fn to_run(noted: NotedProgram) -> Outcome
-    ensures { (reads : List ReadFile) → slots.modules noted ≡ program_modules reads → RunComes reads result }
-{
-    match first_unbuilt(noted.program()) {
-        Some(at) => Outcome::Refused(Refusal::NotYet(at)),
-        None => Outcome::Runs(noted),
-    }
 }

@@ -44,7 +44,6 @@ fn add_refusal(
     match refusal {
         Refusal::Byte(at) => add_placed(text, *at, files, b": byte"),
         Refusal::Syntax(at) => add_placed(text, *at, files, b": syntax"),
-        Refusal::NotYet(at) => add_placed(text, *at, files, b": not yet"),
         Refusal::WordNotYet(what) => add_unbuilt(text, *what),
         Refusal::Pair(fault) => add_pair(text, fault, files),
         Refusal::Import(fault) => add_import(text, fault, files),

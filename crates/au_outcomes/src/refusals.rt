@@ -15,8 +15,6 @@ pub enum Refusal {
     Byte(Pos),
     /// The token at this place stands where no file has it, or the file ends too early.
     Syntax(Pos),
-    /// The program needs something that is not built yet.
-    NotYet(Pos),
     /// The words ask for something that is not built yet.
     WordNotYet(Unbuilt),
     /// The files are not those of modules.

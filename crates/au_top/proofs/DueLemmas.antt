@@ -11,7 +11,6 @@ use Rattle.au_words.specs.Jobs.{Task, IsJob, IsNoJob}
 use Rattle.au_words.specs.declared.jobs.Command.{Command}
 use Rattle.au_words.specs.declared.jobs.Command.TheVariants as command
 use Rattle.au_words.proofs.JobLemmas.{one_job}
-use Rattle.au_unbuilt.specs.Unbuilt.{unbuilt_of}
 use Rattle.au_modules.specs.declared.modules.Modules.{Modules}
 use Rattle.au_modules.specs.Slots as slots
 use Rattle.au_outcomes.specs.declared.refusals.Refusal.TheVariants as refusal
@@ -473,21 +472,18 @@ run_halts program h = elim h [
   | inr p ↦ let e : outcome.Runs program ≡ outcome.Passes p.0 = p.1 in cc
 ]
 
--- accepted files that name nothing that isn't built, of a run, come to nothing for which something is due
+-- accepted files of a run come to nothing for which something is due
 none_due : (names : List (List ℕ)) (reads : List ReadFile) (arisen : Outcome) (P : Due → Type 0)
-    → unbuilt_of (program_modules reads) ≡ None → RunComes reads arisen → IsSomeAnd (due_of names arisen) P
-    → ⊥
-none_due names reads (outcome.Refused (refusal.NotYet at)) P none h paid = let e : None ≡ Some at = sym none
-    ∙ h in cc
-none_due names reads (outcome.Runs program) P none h paid = paid
-none_due names reads other P none h paid = h
+    → RunComes reads arisen → IsSomeAnd (due_of names arisen) P → ⊥
+none_due names reads (outcome.Runs program) P h paid = paid
+none_due names reads other P h paid = h
 
 pub run_unpaid : (words : List (List ℕ)) (files : Files) (names all : List (List ℕ)) (arisen : Outcome)
     (task : Task) (reads : List ReadFile) (P : Due → Type 0) → IsRun words task
-    → AreAcceptedAs files task.files all reads → unbuilt_of (program_modules reads) ≡ None
+    → AreAcceptedAs files task.files all reads
     → Arises words files names arisen → IsSomeAnd (due_of names arisen) P → ⊥
-run_unpaid words files names all arisen task reads P job good none arises paid =
-    none_due names reads arisen P none
+run_unpaid words files names all arisen task reads P job good arises paid =
+    none_due names reads arisen P
     (comes_asked aims.Run files task.files all reads arisen good
     (task_comes words files names arisen task aims.Run job.0 (run_asks words task job) arises)) paid
 
@@ -496,4 +492,4 @@ pub run_modules : (files : Files) (names all : List (List ℕ)) (reads : List Re
     → AreAcceptedAs files names all reads → Comes aims.Run files names (outcome.Runs program)
     → slots.modules program ≡ program_modules reads
 run_modules files names all reads program good comes =
-    (comes_asked aims.Run files names all reads (outcome.Runs program) good comes).1
+    comes_asked aims.Run files names all reads (outcome.Runs program) good comes

@@ -299,14 +299,14 @@ module _ (call : Call) where
 
   -- ---- runs
 
-  -- The program of accepted files in which all is built ran.
+  -- The program of accepted files ran.
   pub ended_runs : Ending → (files : Files) (task : Task) → Tells call files → IsRun call.words task
       → IsDecided call → (run : Run) → IsToRun files task run → EndsAsRun run call.streams call.status
   unfolding whole_as run_with
   ended_runs h files task is job good run to = elim (decided h good) [
     | inl p ↦
         absurd (due.run_unpaid call.words files p.names to.all p.arisen task to.reads PaidFor job to.accepted
-        to.built (paid_arises files is p) p.pays)
+        (paid_arises files is p) p.pays)
     | inr r ↦
         let one : r.0.task ≡ task = one_job call.words r.0.task task r.0.job.0 job.0 in
         let whole = whole_as r.0 in

@@ -170,9 +170,8 @@ module _ (call : Call) (files : Files) (task : Task) (is : Tells call files)
         all = good.0;
         reads = good.1;
         accepted = good.2;
-        built = run.0;
         entry =
-            subst (λ program. HasEntry task.entry program good.2.noted) run.1
+            subst (λ program. HasEntry task.entry program good.2.noted) run
             (subst (λ (t : Task). HasEntry t.entry (slots.modules r.program) good.2.noted) one
             (has good.2.noted));
       }
@@ -256,7 +255,7 @@ module _ (call : Call) where
       | inl p ↦
           absurd (due.run_unpaid call.words files p.names can.all p.arisen task can.reads (of.PaidFor call)
           job
-          can.accepted can.built (of.paid_arises call files is p) p.pays)
+          can.accepted (of.paid_arises call files is p) p.pays)
       | inr r ↦ whole_enters files task is job good no_limit can r.0
     ],
     λ entered. elim entered [

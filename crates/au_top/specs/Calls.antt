@@ -188,7 +188,7 @@ abbrev pub HasSucceeded : Streams → List (List ℕ) → Outcome → Type 0
 HasSucceeded s names arisen = IsSaidAccepted s names arisen ⊎ IsExplained s names arisen
 
 -- The steps that judge whether files are accepted have refused nothing, and what came behind them was paid:
--- that they are accepted, or the lives of their variables, or that a name means what isn't built yet.
+-- that they are accepted, or the lives of their variables.
 abbrev pub HasComeBehind : Call → List (List ℕ) → Outcome → Type 0
 HasComeBehind call names arisen = IsTrue (is_behind arisen) × IsSomeAnd (due_of names arisen) (HasPaid call)
 

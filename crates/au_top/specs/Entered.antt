@@ -1,11 +1,10 @@
 -- Which runs are entered.
-use Rattle.std.specs.Prelude.{◌≡◌, ℕ, List, Option, None}
+use Rattle.std.specs.Prelude.{◌≡◌, ℕ, List, Option}
 use Rattle.au_base.specs.declared.names.Entry.{Entry}
 use Rattle.au_base.specs.Outside.{Files}
 use Rattle.au_words.specs.Jobs.{Task}
 use Rattle.au_modules.specs.Programs.{ModuleParts}
 use Rattle.au_typing.specs.Trees.{NotedParts}
-use Rattle.au_unbuilt.specs.Unbuilt.{unbuilt_of}
 use Rattle.au_outcomes.specs.Accepted.{AreAcceptedAs}
 use Rattle.au_outcomes.specs.Programs.{program_modules}
 use Rattle.au_outcomes.specs.Trees.{ReadFile}
@@ -18,8 +17,7 @@ abbrev pub HasEntry : Option Entry → List ModuleParts → List NotedParts → 
 HasEntry named program noted =
     HasNoEntry program noted (entry_for named program).«module» (entry_for named program).function → ⊥
 
--- The files of a task are accepted, their program names nothing that isn't built yet, and this is the run of
--- it.
+-- The files of a task are accepted, and this is the run of their program.
 pub record IsToRun (files : Files) (task : Task) (run : Run) : Type 0 where
   -- the bytes of the files
   pub all : List (List ℕ)
@@ -27,8 +25,6 @@ pub record IsToRun (files : Files) (task : Task) (run : Run) : Type 0 where
   pub reads : List ReadFile
   -- By these the files are accepted.
   pub accepted : AreAcceptedAs files task.files all reads
-  -- The program names nothing that isn't built yet.
-  pub built : unbuilt_of (program_modules reads) ≡ None
   -- It is the run of this program that the task asks for.
   pub is_run : run ≡ run_of task (program_modules reads)
 
@@ -40,7 +36,5 @@ pub record CanRun (files : Files) (task : Task) : Type 0 where
   pub reads : List ReadFile
   -- By these the files are accepted: so the rules of typing derive their program, with some notes.
   pub accepted : AreAcceptedAs files task.files all reads
-  -- The program names nothing that isn't built yet.
-  pub built : unbuilt_of (program_modules reads) ≡ None
   -- The program has its entry.
   pub entry : HasEntry task.entry (program_modules reads) accepted.noted

@@ -19,9 +19,9 @@ use Rattle.au_top.specs.Streams.{AreQuiet, HasStayed, NeverFailed}
 
 -- What is promised of a call whose words are this job, a `run`, over these files.
 pub record RunPromises (call : Call) (files : Files) (task : Task) : Type 0 where
-  -- The code of its files' program is run where they are accepted and name nothing that isn't built yet: the
-  -- call ends as the run of that code does, its output is what that writes, the input is left as that leaves
-  -- it, the lines of its events stand on `err`, where they are asked for, and its line tells how the run ended.
+  -- The code of its files' program is run where they are accepted: the call ends as the run of that code does,
+  -- its output is what that writes, the input is left as that leaves it, the lines of its events stand on `err`,
+  -- where they are asked for, and its line tells how the run ended.
   pub runs : IsDecided call → (run : Run) → IsToRun files task run → EndsAsRun run call.streams call.status
   -- Then what is seen of the run is what the program means on its input, where that isn't stuck: it ends with
   -- 0 or 1, with 3 or with 4 by how its meaning ends within the steps, and has written what that writes.
@@ -32,8 +32,7 @@ pub record RunPromises (call : Call) (files : Files) (task : Task) : Type 0 wher
   pub lives :
       IsDecided call → (run : Run) → IsToRun files task run → run.life ≡ true
       → HasLives run call.streams call.status
-  -- It ends so only where its program can run: where the files are accepted and name nothing that isn't
-  -- built yet, and the program has its entry.
+  -- It ends so only where its program can run: where the files are accepted, and the program has its entry.
   pub runs_only : IsRunEnd call → CanRun files task
   -- Unless a limit is passed, it ends so, or its run is stuck, exactly where its program can run.
   pub entered :
@@ -54,7 +53,7 @@ pub record FilePromises (call : Call) (files : Files) : Type 0 where
       IsUnread call.words files → IsDecided call
       → (call.status ≡ status.Refused) ⊎ (call.status ≡ status.Limit)
   -- A job isn't refused by the steps that judge whether its files are accepted exactly where they are: then
-  -- the call says so, or its program is run, or it names what isn't built yet.
+  -- the call says so, or its program is run.
   pub accepted : IsDecided call → IsAcceptedJob call.words files ↔ GoesBehind call
   -- A job `check` writes that its files are accepted, and ends with 0, exactly where they are.
   pub checked :

@@ -1,9 +1,0 @@
-pub mod FirstLemmas
-pub mod ListLemmas
-pub mod TypeLemmas
-pub mod ExpressionLemmas
-pub mod StatementLemmas
-pub mod DeclarationLemmas
-pub mod NameLemmas
-pub mod ProgramLemmas
-pub mod OrderLemmas
