@@ -61,7 +61,12 @@ fn add_words(text: &mut Vec<u8>, code: &Code, event: &Event) -> Result<(), Memor
         ++ spec.deed_words (deed_to (spec.type_text code.now) (deed_of event.now))) }
 {
     match event {
-        Event::Born { id, of, module } => add_birth(text, *id, type_text(code, *of), module.as_bytes()),
+        Event::Born { id, of, module } => add_birth(
+            text,
+            *id,
+            type_text(code, *of),
+            module.as_bytes(),
+        ),
         Event::Consumed(id) => add_numbered(text, b"consumed ", *id),
         Event::Opened(borrow) => add_numbered(text, b"opened ", *borrow),
         Event::Used(borrow) => add_numbered(text, b"used ", *borrow),
