@@ -7,7 +7,7 @@ ghost use Rattle.au_running.specs.Runs.{kind_words};
 ghost use Rattle.au_runs.specs.Calls.{IsCut, Rose};
 ghost use Rattle.au_stores.specs.Stores.{deed_of};
 ghost use Rattle.au_running.specs.Came.{CodeEnds, IsAbort, NeedsMemory, ran_of};
-ghost use Rattle.au_running.specs.Came as came;
+ghost use Rattle.au_running.specs.Came as spec;
 ghost use Rattle.au_running.specs.Lines.{told_lines};
 ghost use Rattle.au_running.specs.Ran.{is_read_fault, is_write_fault};
 
@@ -67,7 +67,7 @@ fn answer_of(alloc: Global, code: &Code, end: End) -> Result<Ran, Memory>
 /// Whether the events of a run are told that ended so, where they are asked for: they aren't where what it
 /// writes couldn't be written.
 fn is_told(life: bool, end: End) -> bool
-    ensures { result ≡ came.is_told life end }
+    ensures { result ≡ spec.is_told life end }
 {
     match end {
         End::Exit(_) => life,
@@ -92,8 +92,8 @@ fn lines_of(
     events: &[Event],
 ) -> Result<Vec<u8>, Memory>
     ensures lines { IfOk result (λ lines. lines.items
-        ≡ told_lines (came.is_told life end) code.now (map deed_of events.now)) }
-    ensures told { OnErr result (IsTrue (came.is_told life end)) }
+        ≡ told_lines (spec.is_told life end) code.now (map deed_of events.now)) }
+    ensures told { OnErr result (IsTrue (spec.is_told life end)) }
 {
     if is_told(life, end) {
         event_lines(alloc, code, events)
@@ -116,12 +116,12 @@ fn report_of(
 ) -> Result<Report, Memory>
     ensures ran { IfOk result (λ report. report.ran ≡ ran_of code.now end) }
     ensures lines { IfOk result (λ report. report.events.items
-        ≡ told_lines (came.is_told life end) code.now (map deed_of events.now)) }
+        ≡ told_lines (spec.is_told life end) code.now (map deed_of events.now)) }
     ensures words { OnErr result (NeedsMemory life end) }
 {
     let ran = answer_of(alloc, code, end)?;
-    let events = lines_of(alloc, code, life, end, events)?;
-    Ok(Report { ran, events })
+    let lines = lines_of(alloc, code, life, end, events)?;
+    Ok(Report { ran, events: lines })
 }
 
 /// Runs code for at most so many steps, on an input and a sink, and tells the lines of its events where these
