@@ -2,7 +2,6 @@
 use Rattle.std.proofs.Common.{◌≡◌, ℕ, ◌+◌, ◌-◌, ◌≤◌, Bool, true, false, List, [], ◌∷◌, ◌++◌, length, refl, sym}
 use Rattle.std.proofs.Common.{ap, subst, ◌∙◌, arith, nat_lt, ltb-true, ltb-false, length-append}
 use Rattle.std.proofs.lemmas.List.{append-nil}
-use Rattle.au_effects.specs.Worlds.{Deed}
 use Rattle.au_low.specs.Runs.{low_run}
 use Rattle.au_low.specs.declared.code.Code.{Code}
 use Rattle.au_lowered.proofs.GrowthLemmas.{run_grown}

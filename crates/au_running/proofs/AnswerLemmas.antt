@@ -1,5 +1,5 @@
 -- What is answered of a run of code, by how it ended.
-use Rattle.std.proofs.Common.{◌≡◌, ◌⊎◌, inl, inr, ℕ, Bool, true, false, List, [], Option, refl, sym, ◌∙◌}
+use Rattle.std.proofs.Common.{◌≡◌, inl, inr, ℕ, Bool, true, false, List, [], Option, refl, sym, ◌∙◌}
 use Rattle.std.proofs.Common.{IfOk, Result, Ok, Err, subst}
 use Rattle.std.proofs.Common.{true≢false}
 use Rattle.au_base.specs.declared.faults.Memory.{Memory}
