@@ -79,7 +79,7 @@ told_quiet life (end.Exit success) reads reads' read needs none = read
 told_quiet life (end.Abort why) reads reads' read needs none = read
 told_quiet life end.Steps reads reads' read needs none = read
 told_quiet life end.Stuck reads reads' read needs none = read
-told_quiet life end.ReadFault reads reads' read (inl no) none = absurd no
+told_quiet life end.ReadFault reads reads' read (inl other) none = absurd other
 told_quiet life end.ReadFault reads reads' read (inr is) none = absurd (true≢false (sym is ∙ none))
 told_quiet life end.WriteFault reads reads' read needs none = read
 
