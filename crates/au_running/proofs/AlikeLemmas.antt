@@ -9,7 +9,7 @@ use Rattle.au_meaning.specs.Laws.{Begins}
 
 -- a list is another of its length, if it begins that
 pub begins_all : {A : Type 0} (xs ys : List A) → Begins xs ys → length xs ≡ length ys → xs ≡ ys
-begins_all xs ys begins same = by begins.0 begins.1
+begins_all {A} xs ys begins same = by begins.0 begins.1
   where
     by : (more : List A) → ys ≡ xs ++ more → xs ≡ ys
     by [] is = sym (is ∙ append-nil xs)
