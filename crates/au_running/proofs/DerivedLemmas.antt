@@ -246,13 +246,13 @@ params_outside (p ∷ rest) sc inner e =
         → (o >>= λ of. with_parameters rest (with_variable (fixed_variable p.name.name of) sc)) ≡ Ok inner
         → inner.outside ≡ sc.outside
     by (Ok of) later e = later of e
-    by (Err why) later e = absurd cc
+    by (Err fault) later e = absurd cc
 
 result_outside : (sc inner : Scope) (o : Noting Meaning) → (o >>= λ of. Ok (record sc { result = of })) ≡ Ok inner
     → inner.outside ≡ sc.outside
 result_outside sc inner (Ok of) e =
     let same : record sc { result = of } ≡ inner = cc in sym (ap (λ (x : Scope). x.outside) same)
-result_outside sc inner (Err why) e = absurd cc
+result_outside sc inner (Err fault) e = absurd cc
 
 scope_outside : (outside : Outside) (generics : List (Constrained Bytes)) (header : Header Bytes) (scope : Scope)
     → body_scope outside generics header ≡ Ok scope → scope.outside ≡ outside
@@ -265,7 +265,7 @@ scope_outside outside generics header scope e =
     by (Ok sc) is e =
         result_outside sc scope (written_type sc header.result) e
         ∙ params_outside header.parameters (outer_scope outside (generics_in outside generics)) sc is
-    by (Err why) is e = absurd cc
+    by (Err fault) is e = absurd cc
 
 -- the block of a body of a derived program is good in a scope in which that is outside which its module sees
 pub body_typed : (program : List ModuleParts) (noted : List NotedParts) → Derives (outside_of program) program noted
