@@ -232,7 +232,7 @@ module _ (call : Call) where
   ended_checked h files task is check good = (
     λ accepted.
         let asked : IsAcceptedJob call.words files =
-        (task, aims.Check, check.0, ap (asked_by task) check.1, accepted) in
+        (task, aims.Check, check.0, ap asked_by check.1, accepted) in
         elim (decided h good) [
           | inl p ↦
               let arises = paid_arises files is p in
