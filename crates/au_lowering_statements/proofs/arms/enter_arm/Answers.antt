@@ -24,7 +24,7 @@ returns-in-None-clause-next g c =
     let note = closed_note c.args.note.now in
     let none : length (fields_of_case see note c.args.name.now) ≡ 0 =
     ap (λ (o : Option ℕ). length (known (along o (fields_told see note))))
-    (ap (λ (t : ClosedType). round.tag t c.args.name.now) (sym c.told_type.ensures)
+    (ap (λ (t : ClosedType). round.tag t c.args.name.now) (sym c.told_type-of.ensures)
     ∙ sym c.tag.ensures ∙ c.in-None.is) in
     omega (arith, none)
 
@@ -36,7 +36,7 @@ returns-in-None-clause-said g c =
     let scope = scope_said c.args.scope.now.items in
     let binds = map (bound closed) c.args.binds.now.items in
     sym (ap (λ (o : Option ℕ). with_fields (known (along o (fields_told see note))) c.args.slot binds scope)
-    (ap (λ (t : ClosedType). round.tag t c.args.name.now) (sym c.told_type.ensures)
+    (ap (λ (t : ClosedType). round.tag t c.args.name.now) (sym c.told_type-of.ensures)
     ∙ sym c.tag.ensures ∙ c.in-None.is)
     ∙ no_fields c.args.slot binds scope)
 
@@ -52,10 +52,10 @@ returns-in_ok-next-in-Some-clause-next g c =
     c.in_ok-next-in-Some.ensures
     ∙ ap (λ n. c.args.slot + n)
     (c.count.ensures
-    ∙ ap (λ (t : ClosedType). length (round_known (round.fields t tag))) c.told_type.ensures
+    ∙ ap (λ (t : ClosedType). length (round_known (round.fields t tag))) c.told_type-of.ensures
     ∙ sym (through_length of (round.fields (told_type of) tag))
     ∙ sym (ap (λ (o : Option ℕ). length (known (along o (fields_told (view_in round) note))))
-    (ap (λ (t : ClosedType). round.tag t c.args.name.now) (sym c.told_type.ensures)
+    (ap (λ (t : ClosedType). round.tag t c.args.name.now) (sym c.told_type-of.ensures)
     ∙ sym c.tag.ensures ∙ c.in-Some.is)))
 
 pub returns-in_ok-next-in-Some-clause-said : goal.returns-in_ok-next-in-Some-clause-said
@@ -68,13 +68,13 @@ returns-in_ok-next-in-Some-clause-said g c =
     let binds = map (bound closed) c.args.binds.now.items in
     c.in_ok-bind_fields-in-Some.ensures.said
     ∙ ap (λ (a : Option Access). with_fields (map (reached_field a)
-    (fields_in round (closed_meaning c.told_type.result.now) tag)) c.args.slot binds scope)
+    (fields_in round (closed_meaning c.told_type-of.result.now) tag)) c.args.slot binds scope)
     c.access_behind.ensures
     ∙ ap (λ (t : ClosedType). with_fields (map (reached_field (access_behind of)) (fields_in round t tag))
-    c.args.slot binds scope) c.told_type.ensures
+    c.args.slot binds scope) c.told_type-of.ensures
     ∙ ap (λ (fields : List Field). with_fields fields c.args.slot binds scope)
     (sym (through_same of (round.fields (told_type of) tag)))
     ∙ sym (ap (λ (o : Option ℕ). with_fields (known (along o (fields_told (view_in round) note)))
     c.args.slot binds scope)
-    (ap (λ (t : ClosedType). round.tag t c.args.name.now) (sym c.told_type.ensures)
+    (ap (λ (t : ClosedType). round.tag t c.args.name.now) (sym c.told_type-of.ensures)
     ∙ sym c.tag.ensures ∙ c.in-Some.is))

@@ -16,7 +16,7 @@ returns-in-None g c =
     let see = view_in round in
     let note = closed_note c.args.note.now in
     sym (ap (λ (o : Option ℕ). length (known (along o (fields_told see note))))
-    (ap (λ (t : ClosedType). round.tag t c.args.name.now) (sym c.told_type.ensures)
+    (ap (λ (t : ClosedType). round.tag t c.args.name.now) (sym c.told_type-of.ensures)
     ∙ sym c.tag.ensures ∙ c.in-None.is))
 
 pub returns-in-Some : goal.returns-in-Some
@@ -26,8 +26,8 @@ returns-in-Some g c =
     let note = closed_note c.args.note.now in
     let of = closed_meaning c.args.note.now.of in
     c.count.ensures
-    ∙ ap (λ (t : ClosedType). length (round_known (round.fields t c.in-Some.tag))) c.told_type.ensures
+    ∙ ap (λ (t : ClosedType). length (round_known (round.fields t c.in-Some.tag))) c.told_type-of.ensures
     ∙ sym (through_length of (round.fields (told_type of) c.in-Some.tag))
     ∙ sym (ap (λ (o : Option ℕ). length (known (along o (fields_told see note))))
-    (ap (λ (t : ClosedType). round.tag t c.args.name.now) (sym c.told_type.ensures)
+    (ap (λ (t : ClosedType). round.tag t c.args.name.now) (sym c.told_type-of.ensures)
     ∙ sym c.tag.ensures ∙ c.in-Some.is))
