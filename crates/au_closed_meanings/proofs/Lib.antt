@@ -1,6 +1,6 @@
-mod EachLemmas
-mod NumberLemmas
-mod SaidLemmas
+pub mod EachLemmas
+pub mod NumberLemmas
+pub mod SaidLemmas
 mod CallLemmas
 pub mod KeptLemmas
 pub mod InRowLemmas

@@ -2,7 +2,6 @@
 use Rattle.std.proofs.Common.{◌≡◌, ℕ, ◌+◌, ◌-◌, ◌≤◌, Bool, true, false, List, [], ◌∷◌, ◌++◌, length, refl, sym}
 use Rattle.std.proofs.Common.{ap, subst, ◌∙◌, arith, nat_lt, ltb-true, ltb-false, length-append}
 use Rattle.std.proofs.lemmas.List.{append-nil}
-use Rattle.au_effects.specs.Worlds.{Deed}
 use Rattle.au_low.specs.Runs.{low_run}
 use Rattle.au_low.specs.declared.code.Code.{Code}
 use Rattle.au_lowered.proofs.GrowthLemmas.{run_grown}
@@ -10,7 +9,7 @@ use Rattle.au_meaning.specs.Laws.{Begins}
 
 -- a list is another of its length, if it begins that
 pub begins_all : {A : Type 0} (xs ys : List A) → Begins xs ys → length xs ≡ length ys → xs ≡ ys
-begins_all xs ys begins same = by begins.0 begins.1
+begins_all {A} xs ys begins same = by begins.0 begins.1
   where
     by : (more : List A) → ys ≡ xs ++ more → xs ≡ ys
     by [] is = sym (is ∙ append-nil xs)

@@ -1,5 +1,5 @@
 -- What is answered of a run of code, by how it ended.
-use Rattle.std.proofs.Common.{◌≡◌, ◌⊎◌, inl, inr, ℕ, Bool, true, false, List, [], Option, refl, sym, ◌∙◌}
+use Rattle.std.proofs.Common.{◌≡◌, inl, inr, ℕ, Bool, true, false, List, [], Option, refl, sym, ◌∙◌}
 use Rattle.std.proofs.Common.{IfOk, Result, Ok, Err, subst}
 use Rattle.std.proofs.Common.{true≢false}
 use Rattle.au_base.specs.declared.faults.Memory.{Memory}
@@ -79,7 +79,7 @@ told_quiet life (end.Exit success) reads reads' read needs none = read
 told_quiet life (end.Abort why) reads reads' read needs none = read
 told_quiet life end.Steps reads reads' read needs none = read
 told_quiet life end.Stuck reads reads' read needs none = read
-told_quiet life end.ReadFault reads reads' read (inl no) none = absurd no
+told_quiet life end.ReadFault reads reads' read (inl other) none = absurd other
 told_quiet life end.ReadFault reads reads' read (inr is) none = absurd (true≢false (sym is ∙ none))
 told_quiet life end.WriteFault reads reads' read needs none = read
 

@@ -36,7 +36,7 @@ given_at : (left : Option (List ℕ)) (taken rest : List ℕ) → IfSome left (�
 given_at None taken rest after = tt
 given_at (Some bytes) taken rest after = ap (λ bytes. taken ++ bytes) after
 
-given_by : (told left : Option (List ℕ)) (taken rest : List ℕ)
+pub given_by : (told left : Option (List ℕ)) (taken rest : List ℕ)
     → told ≡ option_map (λ bytes. taken ++ bytes) left → IfSome left (λ bytes. bytes ≡ rest)
     → IfSome told (λ bytes. bytes ≡ taken ++ rest)
 given_by told left taken rest before after =

@@ -1,12 +1,12 @@
 -- A run of code whose events are kept is the one whose events aren't, but for the events.
-use Rattle.std.proofs.Common.{◌≡◌, ℕ, Bool, true, false, List, [], ◌++◌, Option, refl, sym, ap, subst, ◌∙◌}
+use Rattle.std.proofs.Common.{◌≡◌, ℕ, Bool, true, false, List, [], Option, refl, sym, ap, subst, ◌∙◌}
 use Rattle.au_effects.specs.Worlds.{Deed}
 use Rattle.au_low.proofs.MutedRuns.{kept}
 use Rattle.au_low.specs.Kept.{without_events}
-use Rattle.au_low.specs.Runs.{Outcome, low_run}
+use Rattle.au_low.specs.Runs.{low_run}
 use Rattle.au_low.specs.declared.code.Code.{Code}
 use Rattle.au_low.specs.declared.endings.Ending.{Ending}
-use Rattle.au_runs.specs.Calls.{HasWaited, IsCut, IsMade, Runs, seen_so_far}
+use Rattle.au_runs.specs.Calls.{HasWaited, IsCut, IsMade, Runs}
 
 -- whether its events are kept or not, without them it is the run whose events aren't kept
 muted : (life : Bool) (code : Code) (input : List ℕ) (limit : ℕ)

@@ -215,6 +215,7 @@ module _ {T C : Type 0} (told : ClosedType → LowType) (fn : Function ℕ T C) 
       ap (λ types. nat_lt (type_number types p.of) (length (map told types))) front
       ∙ ap (λ b. nat_lt (cond (not b) (1 + type_number more.0 p.of) 0) (length (map told (p.of ∷ more.0))))
       (same_self p.of)
+      ∙ lt-ltb 0 (length (map told (p.of ∷ more.0))) (omega arith)
 
   -- so a run begins with its other number too
   begins_other : (p : Field) → fn.parameters ≡ p ∷ [] → (input : List ℕ) (limit : ℕ)

@@ -23,7 +23,7 @@ use Rattle.au_running.specs.Tells.{EventsShow, LoweredProgramsTell, type_words}
 use Rattle.au_running.specs.declared.ran.Ran.{Ran}
 use Rattle.au_running.specs.declared.ran.Ran.TheVariants as how
 use Rattle.au_running.proofs.AnswerLemmas.{came_cut}
-use Rattle.au_running.proofs.FrontLemmas.{made_cut}
+use Rattle.au_running.proofs.FrontLemmas.{given_by}
 use Rattle.au_syntax.specs.Plain.{Bytes}
 
 -- no run of code is answered as one that didn't begin
@@ -85,13 +85,12 @@ module _ (program : List ModuleParts) (noted : List NotedParts) (owner name : By
       let input = made.taken ++ made.rest in
       let words = type_words done.it.c.types in
       let meant = means program noted done.it.closes.closes.entry in
-      let cut = made_cut run.ending (low_run true code) steps told left out out' run.events made in
       let answered : ran_by code (low_run true code input steps).ending ≡ ran =
       ap (ran_by code) made.ending ∙ sym run.answer in
       record {
         it = done.it;
         input = input;
-        given = cut.given;
+        given = given_by told left made.taken made.rest made.input.before made.input.after;
         deeds = deeds_told code run.events;
         are_lines = run.tells;
         shows = λ unstuck.

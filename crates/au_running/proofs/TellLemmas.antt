@@ -1,5 +1,5 @@
 -- The events of every run of the code of a program are those of what the program means.
-use Rattle.std.proofs.Common.{◌≡◌, ℕ, ◌/◌, true, List, ◌++◌, map, refl, sym, ap, subst, ◌∙◌}
+use Rattle.std.proofs.Common.{◌≡◌, ℕ, ◌/◌, true, List, map, refl, sym, ap, subst, ◌∙◌, arith}
 use Rattle.std.specs.Prelude.{slice_get}
 use Rattle.std.proofs.lemmas.List.{map-append}
 use Rattle.au_syntax.specs.Plain.{Bytes}

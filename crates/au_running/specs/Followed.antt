@@ -56,8 +56,8 @@ module _ (T C : Type 0) where
 
 -- ---- closed programs
 
--- No closed view is good as it stands, since it says of notes that are in no tree which constants they mention.
--- So it is guarded: code that follows a tree needs no more than the tree notes.
+-- No closed view is good as it stands, since it says of notes that are in no tree which constants they
+-- mention. So it is guarded: code that follows a tree needs no more than the tree notes.
 abbrev pub NoClosedViewIsGood : Type 0
 NoClosedViewIsGood =
     (told : ClosedType → LowType) (functions : List (Function ℕ ClosedNote (Callee ℕ))) (round : Surroundings)
@@ -77,7 +77,8 @@ functions_of program numbers functions = functions_in (surroundings_of program f
 
 -- A run of the code that a derived program is lowered to, from the functions that it closes to, does what the
 -- noted program means, where that isn't stuck. This is asked besides: parameters and fields have names of
--- their own, a type is told as linear where the program says so, and the entry has no parameter but the root. No number is that of two declarations, as with the numbers of `first_name`.
+-- their own, a type is told as linear where the program says so, and the entry has no parameter but the root.
+-- No number is that of two declarations, as with the numbers of `first_name`.
 abbrev pub DerivedProgramsFollow : Type 0
 DerivedProgramsFollow =
     (program : List ModuleParts) (noted : List NotedParts) → IsDerived program noted

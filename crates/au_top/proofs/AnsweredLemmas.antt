@@ -1,5 +1,5 @@
 -- From what was found and what was answered to how a call ended.
-use Rattle.std.proofs.Common.{◌≡◌, ℕ, Bool, true, false, List, [], Option, Some, Result, Ok, Err, IfErr, IfOk, OnOk}
+use Rattle.std.proofs.Common.{◌≡◌, ℕ, Bool, true, false, List, Option, Some, Result, Ok, Err, IfErr, IfOk, OnOk}
 use Rattle.std.proofs.Common.{IfSome}
 use Rattle.std.proofs.Common.{sym, refl, subst, inl, inr}
 use Rattle.std.specs.Prelude.{IsSomeAnd}

@@ -19,10 +19,10 @@ use Rattle.au_running.specs.declared.ran.Ran.{Ran}
 use Rattle.au_running.specs.declared.ran.Ran.TheVariants as how
 use Rattle.au_top.specs.Calls.{is_decided}
 use Rattle.au_top.specs.Ends.{IsRunStopped, RunAnswers}
-use Rattle.au_top.specs.Runs.{BreaksOff, EndsAsRun, FromEntry, IsTold, Run, Runs, entry_of, run_line}
+use Rattle.au_top.specs.Runs.{EndsAsRun, FromEntry, IsTold, Run, Runs, entry_of, run_line}
 use Rattle.au_top.specs.Runs.{run_status}
 use Rattle.au_top.specs.Shown.{HasLives, IsAsMeant, ShowsLives, ShowsMeaning}
-use Rattle.au_top.specs.Streams.{AreQuiet, Gains, GainsFront, HasFailed, HasStayed, Streams}
+use Rattle.au_top.specs.Streams.{Gains, GainsFront, HasFailed, HasStayed, Streams}
 use Rattle.au_running.proofs.ShownLemmas.{as_meant, lives_meant, ran_broken}
 use Rattle.au_top.specs.declared.saying.AnswerFault.{AnswerFault}
 use Rattle.au_top.specs.declared.saying.AnswerFault.TheVariants as answer

@@ -1,5 +1,5 @@
 -- What is seen of a run, by what its program means.
-use Rattle.std.specs.Prelude.{ℕ, true, false, List, [], ◌++◌}
+use Rattle.std.specs.Prelude.{true, false, [], ◌++◌}
 use Rattle.au_base.specs.declared.statuses.Status.{Status}
 use Rattle.au_base.specs.declared.statuses.Status.TheVariants as status
 use Rattle.au_syntax.specs.Plain.{Bytes}

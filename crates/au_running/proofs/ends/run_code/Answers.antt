@@ -1,5 +1,5 @@
 -- The machine is loaded with this code, and keeps its events where they are asked for.
-use Rattle.std.proofs.Common.{◌≡◌, ℕ, Bool, List, IfOk, ap, map, subst, sym, ◌∙◌}
+use Rattle.std.proofs.Common.{◌≡◌, ℕ, Bool, false, List, IfOk, ap, subst, sym, ◌∙◌}
 use Rattle.std.proofs.lemmas.Result.{IfOk-weaker, on_err_weaker}
 use Rattle.au_base.proofs.OutsideLemmas.{on_err}
 use Rattle.au_effects.specs.Worlds.{Deed}
