@@ -1,3 +1,4 @@
+pub mod BirthLemmas
 pub mod CallLemmas
 pub mod CaseLemmas
 pub mod CloseLemmas

@@ -3,7 +3,7 @@ use Rattle.std.proofs.Common.{◌≡◌, ℕ, zero, suc, false, List, [], ◌∷
 use Rattle.std.proofs.Common.{slice_set, refl, sym, ap, ◌∙◌}
 use Rattle.std.specs.Option.{option_map}
 use Rattle.au_base.proofs.ListLemmas.{set_twice}
-use Rattle.au_effects.specs.Values.{Place}
+use Rattle.au_effects.specs.Values.{Place, content_of}
 use Rattle.au_effects.specs.Parts.{along, part, with_part}
 use Rattle.au_effects.specs.Worlds as effect
 use Rattle.au_effects.specs.Places.{content_in, name_at, with_name, name_set, base_at, base_set, set_over, exchanged}
@@ -11,7 +11,7 @@ use Rattle.au_low.specs.Machines.{Low, LowWorld}
 use Rattle.au_cells.specs.declared.cells.Cell.{Cell}
 use Rattle.au_cells.specs.Cells.{low}
 use Rattle.au_stores.specs.declared.worlds.World.{World}
-use Rattle.au_stores.specs.Stores.{world_of, came_out}
+use Rattle.au_stores.specs.Stores.{world_of, came_out, content_of_birth, with_content_part}
 use Rattle.au_stores.proofs.PartLemmas.{part_missing}
 
 -- a slot that gets what it holds
@@ -132,3 +132,38 @@ content_kept id path new base old births after there is missing set =
     ∙ ap (λ (v : Low). slice_set births id (effect.content v))
     (part_missing path new base (low_none old (part path base) is missing))
     ∙ births_same births id base there
+
+-- a box whose content gets another part
+came_none : (old : Option Cell) (w : World) → None ≡ option_map low old → came_out old w ≡ None
+came_none None w h = refl
+came_none (Some one) w h = cc
+
+pub content_exchanged : (id : ℕ) (path : List ℕ) (new : Low) (old : Option Cell) (w : LowWorld) (after : World)
+    → option_map low old ≡ along (content_of_birth id w.births) (part path)
+    → world_of after
+    ≡ record w { births = with_content_part id path new (content_of_birth id w.births) w.births }
+    → came_out old after ≡ exchanged (record { base = content_of id; path = path }) new w
+content_exchanged id path new old w after is set = by (content_of_birth id w.births) refl
+  where
+    by : (found : Option Low) → content_of_birth id w.births ≡ found
+        → came_out old after ≡ exchanged (record { base = content_of id; path = path }) new w
+    by None e =
+        let none = is ∙ ap (λ (f : Option Low). along f (part path)) e in
+        came_none old after (sym none)
+        ∙ sym (ap (set_over (record { base = content_of id; path = path }) new w) e)
+    by (Some base) e =
+        exchanged_is (record { base = content_of id; path = path }) new base old w after e
+        (is ∙ ap (λ (f : Option Low). along f (part path)) e)
+        (set ∙ ap (λ (f : Option Low). record w { births = with_content_part id path new f w.births }) e)
+
+pub content_stays : (id : ℕ) (path : List ℕ) (new : Low) (old : Option Cell)
+    (births after : List (effect.Held ℕ))
+    → option_map low old ≡ along (content_of_birth id births) (part path) → is_some old ≡ false
+    → after ≡ with_content_part id path new (content_of_birth id births) births → after ≡ births
+content_stays id path new old births after is missing set = by (content_of_birth id births) refl
+  where
+    by : (found : Option Low) → content_of_birth id births ≡ found → after ≡ births
+    by None e = set ∙ ap (λ (f : Option Low). with_content_part id path new f births) e
+    by (Some base) e =
+        content_kept id path new base old births after e (is ∙ ap (λ (f : Option Low). along f (part path)) e) missing
+        (set ∙ ap (λ (f : Option Low). with_content_part id path new f births) e)

@@ -14,7 +14,7 @@ ghost use Rattle.au_stores.specs.Answers.{answer_of, given_or};
 ghost use Rattle.au_stores.specs.declared.answers.Answered.TheVariants.{NoRule};
 
 use crate::answers::Answered;
-use crate::births::{put_held, take_elements};
+use crate::keeping::Births;
 use crate::worlds::{Held, World};
 use au_base::Memory;
 use au_cells::Cell;
@@ -65,7 +65,7 @@ impl World {
         if count != 0 {
             return Ok(Answered::Aborts(AbortKind::NotEmpty));
         }
-        put_held(&mut self.births, id as usize, Held::Nothing);
+        self.births.end(id);
         self.tell(Event::Consumed(id))?;
         Ok(Answered::Gives(Cell::Unit))
     }
@@ -105,7 +105,7 @@ impl World {
         let Some((borrow, id)) = self.buffer_reached(reference) else {
             return Ok(Answered::NoRule);
         };
-        if !inserted(&mut self.births, id as usize, new)? {
+        if !inserted(&mut self.births, id, new)? {
             return Ok(Answered::NoRule);
         }
         self.tell_use(borrow)?;
@@ -126,11 +126,11 @@ impl World {
         let Some((borrow, id)) = self.buffer_reached(reference) else {
             return Ok(Answered::NoRule);
         };
-        let Some(mut cells) = take_elements(&mut self.births, id as usize) else {
+        let Some(mut cells) = self.births.take_elements(id) else {
             return Ok(Answered::NoRule);
         };
         let last = cells.pop();
-        put_held(&mut self.births, id as usize, Held::Elements(cells));
+        self.births.put(id, Held::Elements(cells))?;
         self.tell_use(borrow)?;
         Ok(given_or(last, AbortKind::Empty))
     }
@@ -183,11 +183,11 @@ impl World {
         let Some((borrow, id)) = self.buffer_reached(reference) else {
             return Ok(Answered::NoRule);
         };
-        let Some(mut cells) = take_elements(&mut self.births, id as usize) else {
+        let Some(mut cells) = self.births.take_elements(id) else {
             return Ok(Answered::NoRule);
         };
         let old = replaced(&mut cells, index as usize, new);
-        put_held(&mut self.births, id as usize, Held::Elements(cells));
+        self.births.put(id, Held::Elements(cells))?;
         self.tell_use(borrow)?;
         Ok(given_or(old, AbortKind::OutOfRange))
     }
@@ -243,16 +243,16 @@ fn given_or(held_value: Option<Cell>, why: AbortKind) -> Answered
 }
 
 /// Puts a value behind the elements of a buffer. Where there is no buffer, nothing changes.
-fn inserted(births: &mut Vec<Held>, index: usize, new: Cell) -> Result<bool, Memory>
-    ensures done { IfOk result (λ done. done ≡ is_some (held_elements index (map held_of births.old.items))) }
-    ensures births { IfOk result (λ done. map held_of births.new.items
-        ≡ inserted index (low new) (map held_of births.old.items)) }
+fn inserted(births: &mut Births, id: u64, new: Cell) -> Result<bool, Memory>
+    ensures done { IfOk result (λ done. done ≡ is_some (held_elements id (map held_of births.old))) }
+    ensures births { IfOk result (λ done. map held_of births.new
+        ≡ inserted id (low new) (map held_of births.old)) }
 {
-    let Some(mut cells) = take_elements(births, index) else {
+    let Some(mut cells) = births.take_elements(id) else {
         return Ok(false);
     };
     cells.push(new)?;
-    put_held(births, index, Held::Elements(cells));
+    births.put(id, Held::Elements(cells))?;
     Ok(true)
 }
 

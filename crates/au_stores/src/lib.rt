@@ -10,6 +10,7 @@ pub mod borrows;
 pub mod boxes;
 pub mod buffers;
 pub mod cases;
+pub mod keeping;
 pub mod laws;
 pub mod places;
 pub mod slots;
@@ -18,4 +19,5 @@ pub mod worlds;
 
 pub use answers::Answered;
 pub use cases::{Taken, Told};
+pub use keeping::Births;
 pub use worlds::{Held, World};

@@ -9,9 +9,8 @@ ghost use Rattle.au_cells.specs.Cells.{low, base_of, place_of};
 ghost use Rattle.au_stores.specs.Stores.{world_of, top_frame, slot_place, slot_count, put_through, came_out};
 ghost use Rattle.au_stores.specs.Stores.{done_in};
 
-use crate::births::{put_held, take_content};
 use crate::slots::held_value;
-use crate::worlds::{Held, World};
+use crate::worlds::World;
 use au_base::{Memory, Sequence};
 use au_cells::forms::reference_in;
 use au_cells::paths::{part, replace};
@@ -181,10 +180,7 @@ impl World {
         ensures kept { IsNone result → world_of self.new ≡ world_of self.old }
         ensures frame { top_frame self.new ≡ top_frame self.old }
     {
-        let mut base = take_content(&mut self.births, id as usize)?;
-        let old = replace(&mut base, path, new);
-        put_held(&mut self.births, id as usize, Held::Content(base));
-        old
+        self.births.exchange_content(id, path, new)
     }
 }
 

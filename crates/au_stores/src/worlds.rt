@@ -6,6 +6,7 @@ ghost use Rattle.au_effects.specs.Worlds as effect;
 ghost use Rattle.au_low.specs.Runs.{first_world};
 ghost use Rattle.au_stores.specs.Stores.{world_of, held_of, deed_of, top_frame};
 
+use crate::keeping::Births;
 use au_base::{Memory, Name};
 use au_cells::{Cell, Piles};
 use au_low::Event;
@@ -28,7 +29,7 @@ pub struct World {
     /// The slots of the frames, those of the running one at the top.
     pub slots: Piles<Option<Cell>>,
     /// What there is of each birth.
-    pub births: Vec<Held>,
+    pub births: Births,
     /// The number of the next borrow.
     pub borrows: u64,
     /// Whether events are kept.
@@ -45,7 +46,7 @@ impl World {
     {
         World {
             slots: Piles::new(alloc),
-            births: Vec::new(alloc),
+            births: Births::new(alloc),
             borrows: 0,
             keeps,
             events: Vec::new(alloc),
@@ -138,12 +139,12 @@ impl World {
     ) -> Result<u64, Memory>
         requires some { 0 < length home.now }
         requires most { length home.now ≤ most_name_bytes }
-        ensures id { IfOk result (λ id. id ≡ length self.old.births.items) }
+        ensures id { IfOk result (λ id. id ≡ length self.old.births) }
         ensures world { OnOk result
             (world_of self.new ≡ effect.bears of home.now (held_of birth_held) (world_of self.old)) }
         ensures frame { OnOk result (top_frame self.new ≡ top_frame self.old) }
     {
-        let id = self.births.len() as u64;
+        let id = self.births.count();
         if self.keeps {
             let module = Name::copy_of(alloc, home)?;
             self.events.push(Event::Born { id, of, module })?;

@@ -11,13 +11,13 @@ use Rattle.au_stores.proofs.buffers.inserted.Goals as goal
 
 pub returns-clause-births : goal.returns-clause-births
 returns-clause-births c =
-    let births = map held_of c.args.births.now.items in
+    let births = map held_of c.args.births.now in
     let cells = c.in-Some.cells.items in
-    held_put births (map held_of c.take_elements.new.births.items) (map held_of c.put_held.new.births.items)
-    c.args.index (effect.elements (lows c.push.new.self.items)) c.in-Some.ensures.births c.put_held.ensures
-    ∙ ap (λ (ones : List Cell). slice_set births c.args.index (effect.elements (lows ones)))
+    held_put births (map held_of c.take_elements.new.self) (map held_of c.put.new.self)
+    c.args.id (effect.elements (lows c.push.new.self.items)) c.in-Some.ensures.births c.in_ok-put.ensures
+    ∙ ap (λ (ones : List Cell). slice_set births c.args.id (effect.elements (lows ones)))
     c.in_ok-push.ensures.items
-    ∙ ap (λ (values : List Low). slice_set births c.args.index (effect.elements values))
+    ∙ ap (λ (values : List Low). slice_set births c.args.id (effect.elements values))
     (lows_push cells c.args.new)
-    ∙ ap (λ (found : Option (List Low)). with_more c.args.index (low c.args.new) found births)
+    ∙ ap (λ (found : Option (List Low)). with_more c.args.id (low c.args.new) found births)
     c.in-Some.ensures.elements

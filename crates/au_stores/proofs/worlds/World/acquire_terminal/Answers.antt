@@ -15,4 +15,4 @@ returns-clause-does c =
     ap (λ (value : Low). answer.gives value after) (terminal_is c.in_ok-id.id)
     ∙ calls.terminal_is (low c.args.reference.now) (world_of c.args.self.now) (world_of mid) after c.args.of
     c.in-Some.borrow c.in-Some._root c.in_ok-id.id c.in-Some.ensures c.in_ok-tell_use.ensures.world
-    (c.in_ok-id.ensures.id ∙ sym (length-map mid.births.items held_of)) c.in_ok-id.ensures.world
+    (c.in_ok-id.ensures.id ∙ sym (length-map mid.births held_of)) c.in_ok-id.ensures.world

@@ -17,6 +17,6 @@ returns-clause-does c =
     ∙ destroyed w after id c.in-Some-element_count.count c.in-Some-element_count.ensures c.if-count-ne0.false
     (c.in_ok-tell.ensures.world
     ∙ ap (λ (births : List (effect.Held _)). effect.tells (effect.consumed id) (record w { births = births }))
-    c.put_held.ensures)
+    c.end.ensures)
     ∙ ap (λ (found : Option _). call.given found
     (λ one. call.given (elements_of one w) (λ values. call.buffer_ended one values w))) c.in-Some.ensures

@@ -13,6 +13,6 @@ returns-clause-does c =
     let after = world_of c.tell_use.new.self in
     ap (λ (value : Low). answer.gives value after) unit_is
     ∙ insert_is (low c.args.reference.now) (low c.args.new) w after c.in-Some.borrow c.in-Some.id
-    (map held_of c.inserted.new.births.items) (elements_of c.in-Some.id w) c.in-Some.ensures refl
+    (map held_of c.inserted.new.births) (elements_of c.in-Some.id w) c.in-Some.ensures refl
     (sym c.if-not-branch.false ∙ c.in_ok-inserted.ensures.done) c.in_ok-inserted.ensures.births
     c.in_ok-tell_use.ensures.world

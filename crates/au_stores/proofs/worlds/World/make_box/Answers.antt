@@ -9,7 +9,7 @@ use Rattle.au_stores.proofs.worlds.World.make_box.Goals as goal
 
 pub returns-clause-does : goal.returns-clause-does
 returns-clause-does c =
-    let births = c.args.self.now.births.items in
+    let births = c.args.self.now.births in
     let after = world_of c.bear.new.self in
     ap (λ (value : Low). answer.gives value after) (box_is c.in_ok-id.id)
     ∙ ap (λ n. answer.gives (box n) after) (c.in_ok-id.ensures.id ∙ sym (length-map births held_of))

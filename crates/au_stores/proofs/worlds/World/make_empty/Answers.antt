@@ -13,7 +13,7 @@ use Rattle.au_stores.proofs.worlds.World.make_empty.Goals as goal
 pub returns-clause-does : goal.returns-clause-does
 returns-clause-does c =
     let w = world_of c.args.self.now in
-    let births = c.args.self.now.births.items in
+    let births = c.args.self.now.births in
     let after = world_of c.bear.new.self in
     let id = length (map held_of births) in
     ap (λ (value : Low). answer.gives value after) (buffer_is c.in_ok-id.id)

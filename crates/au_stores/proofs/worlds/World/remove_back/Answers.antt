@@ -16,13 +16,13 @@ returns-clause-does c =
     let cells = c.in-Some-take_elements.cells in
     let rest = c.pop-last.new.self.items in
     let size : _ ≡ length cells.items = cells.ok.0 in
-    let births = held_put w.births (map held_of c.take_elements.new.births.items)
-    (map held_of c.put_held.new.births.items)
-    c.in-Some.id (effect.elements (lows rest)) c.in-Some-take_elements.ensures.births c.put_held.ensures in
+    let births = held_put w.births (map held_of c.take_elements.new.self)
+    (map held_of c.put.new.self)
+    c.in-Some.id (effect.elements (lows rest)) c.in-Some-take_elements.ensures.births c.in_ok-put.ensures in
     ap (λ (one : Answered). answer_of one after) c.given_or.ensures
     ∙ remove_is (low c.args.reference.now) w after c.in-Some.borrow c.in-Some.id (lows cells.items)
     (lows rest)
-    c.pop-last.result (map held_of c.put_held.new.births.items) c.in-Some.ensures
+    c.pop-last.result (map held_of c.put.new.self) c.in-Some.ensures
     c.in-Some-take_elements.ensures.elements
     (popped_last cells.items c.pop-last.result cells.len size c.pop-last.ensures.value
     (λ some. c.pop-last.ensures.variant.0 some))

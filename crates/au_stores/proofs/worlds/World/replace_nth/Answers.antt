@@ -17,13 +17,13 @@ returns-clause-does c =
     let cells = c.in-Some-take_elements.cells.items in
     let next = c.replaced-old.new.cells.items in
     let id = c.in-Some-buffer_reached.id in
-    let births = held_put w.births (map held_of c.take_elements.new.births.items)
-    (map held_of c.put_held.new.births.items)
-    id (effect.elements (lows next)) c.in-Some-take_elements.ensures.births c.put_held.ensures in
+    let births = held_put w.births (map held_of c.take_elements.new.self)
+    (map held_of c.put.new.self)
+    id (effect.elements (lows next)) c.in-Some-take_elements.ensures.births c.in_ok-put.ensures in
     ap (λ (one : Answered). answer_of one after) c.given_or.ensures
     ∙ replace_is (low c.args.reference.now) (low c.args.new) c.in-Some.index w after
     c.in-Some-buffer_reached.borrow id
-    (lows cells) (lows next) c.replaced-old.result (map held_of c.put_held.new.births.items)
+    (lows cells) (lows next) c.replaced-old.result (map held_of c.put.new.self)
     c.in-Some-buffer_reached.ensures c.in-Some-take_elements.ensures.elements c.replaced-old.ensures.old
     c.replaced-old.ensures.new births c.in_ok-tell_use.ensures.world
     ∙ ap (λ (found : Option _). call.given found
