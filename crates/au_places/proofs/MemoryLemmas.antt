@@ -100,11 +100,11 @@ module _ {T : Type 0} where
       by true e =
           let is = base_is to.base other.base e in
           let back : same_base other.base to.base ≡ true =
-              subst (λ b. same_base b to.base ≡ true) is (self_base to.base) in
+          subst (λ b. same_base b to.base ≡ true) is (self_base to.base) in
           let there' : along (m.at to.base) (part other.path) ≡ Some (made tag born parts) =
-              subst (λ b. along (m.at b) (part other.path) ≡ Some (made tag born parts)) (sym is) there in
+          subst (λ b. along (m.at b) (part other.path) ≡ Some (made tag born parts)) (sym is) there in
           let above = above_in n to.path other.path new tag born parts (m.at to.base) (node back)
-              (same_cell other to e k) there' in
+          (same_cell other to e k) there' in
           let at : (written to new m).at other.base ≡ option_map (with_part to.path new) (m.at to.base) = rw e in
           record {
             others = above.0;

@@ -153,7 +153,7 @@ module _ {T : Type 0} where
       let same = eqb-true i j e in
       let back : (j == i) ≡ true = eq-eqb j i (sym same) in
       let inner : covers n q p ≡ 0 =
-          let c : (if i == j then covers n q p else 0) ≡ covers n q p = rw e in sym c ∙ h in
+      let c : (if i == j then covers n q p else 0) ≡ covers n q p = rw e in sym c ∙ h in
       subst (λ c. StaysMade n (i ∷ q) (with_field c (with_part p new) v) tag born parts) same
       (in_field n i p q new v tag born parts (field i v) refl there (more inner (from_first j i p q k back)))
   first_above n i j p q new v tag born parts h k there more false e = record {
