@@ -15,4 +15,9 @@ pub mod PartLemmas
 pub mod ContentLemmas
 pub mod CaseLemmas
 pub mod RejoinLemmas
+pub mod TokenEndLemmas
 pub mod RecordLemmas
+pub mod SeenLemmas
+pub mod ChangeLemmas
+pub mod PathLemmas
+pub mod PutLemmas

@@ -154,7 +154,8 @@ module _ (types : Types) (s q : Table) (f e : Forest) (m n : Memory (List ℕ)) 
         subst (λ p. held_at n p ≡ Some (made tag born after.others)) (sym r.2) after.there,
         λ j t less at2. part_moves k l.token (g + j) (part_at j to) t stay (r.10 j t less at2),
       )
-  root_goes k l watching stay same parted shows others r = (r.0, r.1, r.2, has_grows types s q grows r.1 l.type r.3)
+  root_goes k l watching stay same parted shows others r =
+      (r.0, r.1, r.2, has_grows types s q grows r.1 l.type r.3, (r.4.0, grows.row r.0 r.4.0 r.4.1, r.4.2))
 
   -- the same where the place stands as it did
   pub root_moves : (k : ℕ) (l : Loan) (h : Held) → Stays k → (1 ≤ in_held (cell_of l.to) h → held_at n l.to ≡ held_at m l.to)

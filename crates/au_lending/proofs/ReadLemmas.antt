@@ -151,7 +151,13 @@ module _ (types : Types) (clock : ℕ) (scope act : ℕ → Bool) (hold : Holds)
   new_root = (
     loan,
     row_self core.top loan s,
-    (k, found.tree, refl, has_grows types s table grows found.tree (type frame x) found.typed),
+    (
+      k,
+      found.tree,
+      refl,
+      has_grows types s table grows found.tree (type frame x) found.typed,
+      (own_row.row, grows.row k own_row.row own_row.has, own_row.at),
+    ),
   )
 
   rooted : (j : ℕ) (h : Held) → forest j ≡ Some h → (l : Loan) × (table j ≡ Some l) × IsRooted types table forest m j l h

@@ -25,9 +25,8 @@ use Rattle.au_lending.proofs.RowLemmas.{Found, find, no_loan, one_root, row_of, 
 
 module _ (types : Types) (forms : AreDeclared types) (clock : ℕ) (scope act : ℕ → Bool) (hold : Holds)
     (type : ℕ → ℕ → Meaning) (under : Made) (s : Table) (m : Memory (List ℕ))
-    (core : Core types clock scope act hold type under s m) (frame x b z : ℕ) (t : Meaning) (y : ℕ)
-    (is : hold frame x ≡ ready) (typed : type frame x ≡ meaning.writes t (token y)) (scoped : scope y ≡ true)
-    (active : act z ≡ true) (before : y ≤ z) where
+    (core : Core types clock scope act hold type under s m) (frame x : ℕ) (t : Meaning) (y : ℕ)
+    (is : hold frame x ≡ ready) (typed : type frame x ≡ meaning.writes t (token y)) (scoped : scope y ≡ true) where
   full : IsFull (hold frame x)
   full = subst IsFull (sym is) tt
 
@@ -106,22 +105,47 @@ module _ (types : Types) (forms : AreDeclared types) (clock : ℕ) (scope act : 
       let same : shown.0 ≡ lk = cc in
       shown.2 ∙ ap (λ (n : Loan). reference n.borrow n.to) same
 
-  pub lends_again : LendsAgain types clock scope act hold type under s m core frame x b z t y
-  lends_again = record {
+  -- The reference in a name that is ready leads to a loan that may be used.
+  pub record NameHolds : Type 0 where
+    pub loan : ℕ
+    pub row : Loan
+    pub has : s loan ≡ Some row
+    pub writes : IsWriter row.via
+    pub its_type : row.type ≡ t
+    pub its_token : row.token ≡ y
+    pub there : m.at (name_of frame x) ≡ Some (reference row.borrow row.to)
+    pub usable : Usable types s core.forest m loan row
+
+  pub name_holds : NameHolds
+  name_holds = record {
     loan = k;
     row = lk;
     has = form.has;
-    typed = of_type;
-    of_token = sym of_token;
+    writes = form.writes;
+    its_type = of_type;
+    its_token = sym of_token;
     there = found.there ∙ ap Some leads;
-    lent = lent_all types clock scope act hold type under s m core frame x is b z active k lk form.has lk.to can.tree
-        can.here (lent_through (core.root frame x) k) (inr (core.root frame x, refl)) refl
-        (λ loan. subst (λ c. c ≤ z) of_token before)
-        (λ a w other there same. other_root a w there same)
-        (λ j e.
-        let same : core.root frame x ≡ j = cc in (
-          name_along frame x [],
-          subst (λ i. core.forest i ≡ Some (whole (name_along frame x []) (a_writer k))) same holder,
-          λ alike. other_root frame x full (same ∙ sym alike),
-        ));
+    usable = can;
   }
+
+  -- so it may be lent again
+  module _ (b z : ℕ) (active : act z ≡ true) (before : y ≤ z) where
+    pub lends_again : LendsAgain types clock scope act hold type under s m core frame x b z t y
+    lends_again = record {
+      loan = k;
+      row = lk;
+      has = form.has;
+      typed = of_type;
+      of_token = sym of_token;
+      there = found.there ∙ ap Some leads;
+      lent = lent_all types clock scope act hold type under s m core frame x is b z active k lk form.has lk.to can.tree
+          can.here (lent_through (core.root frame x) k) (inr (core.root frame x, refl)) refl
+          (λ loan. subst (λ c. c ≤ z) of_token before)
+          (λ a w other there same. other_root a w there same)
+          (λ j e.
+          let same : core.root frame x ≡ j = cc in (
+            name_along frame x [],
+            subst (λ i. core.forest i ≡ Some (whole (name_along frame x []) (a_writer k))) same holder,
+            λ alike. other_root frame x full (same ∙ sym alike),
+          ));
+    }

@@ -33,7 +33,7 @@ use Rattle.au_lending.proofs.MoveLemmas.{part_stays}
 use Rattle.au_lending.proofs.RowLemmas.{no_loan, row_of, watched_full}
 
 -- values under way in which a place doesn't count
-shown_written : (types : Types) (s : Table) (m : Memory (List ℕ)) (to : Place) (new : Value) (vs : Made) (ts : List Tree)
+pub shown_written : (types : Types) (s : Table) (m : Memory (List ℕ)) (to : Place) (new : Value) (vs : Made) (ts : List Tree)
     → in_list (cell_of to) ts ≡ 0 → AreShown types s m vs ts → AreShown types s (written to new m) vs ts
 shown_written types s m to new [] [] none h = h
 shown_written types s m to new [] (t ∷ ts) none h = h

@@ -3,4 +3,4 @@ use Rattle.au_lending.proofs.laws.references_lend.Goals as goal
 
 pub returns : goal.returns
 returns c = λ types clock scope act hold type under s m core frame x b z t y forms is typed scoped active before.
-    lends_again types forms clock scope act hold type under s m core frame x b z t y is typed scoped active before
+    lends_again types forms clock scope act hold type under s m core frame x t y is typed scoped b z active before
