@@ -1,6 +1,6 @@
 -- What a root holds whole gives way to another tree, over another memory.
-use Rattle.std.proofs.Common.{◌≡◌, ◌⊎◌, inl, inr, ℕ, ◌+◌, ◌≤◌, ◌<◌, Bool, true, List, [], ◌∷◌, refl, sym, ap, subst}
-use Rattle.std.proofs.Common.{◌∙◌, arith}
+use Rattle.std.proofs.Common.{◌≡◌, ◌⊎◌, inl, inr, ℕ, ◌+◌, ◌≤◌, Bool, List, refl, sym, ap, subst}
+use Rattle.std.proofs.Common.{◌∙◌}
 use Rattle.std.specs.Prelude.{Option, Some, None}
 use Rattle.std.proofs.lemmas.Bool.{cases_eq}
 use Rattle.au_effects.specs.Values.{Fields, Place, made, name_of}
@@ -8,16 +8,15 @@ use Rattle.au_places.specs.Memories.{Memory, held_at}
 use Rattle.au_places.specs.Places.{Id, writer}
 use Rattle.au_types.specs.Types.{Meaning}
 use Rattle.au_memory.specs.Trees.{Value, Tree, Trees}
-use Rattle.au_memory.specs.Loans.{Types, Loan, Table, IsLoan}
+use Rattle.au_memory.specs.Loans.{Types, Loan, Table}
 use Rattle.au_memory.specs.Shown.{Shows, ShowsAll, Has}
-use Rattle.au_memory.specs.Forests.{Held, Forest, Hold, Holds, Made, Names, Core, AreShown, whole, all_lent, box_lent}
-use Rattle.au_memory.specs.Forests.{parts_lent, watching, shut, with_root, in_forest, in_list, IsHere, IsNameRow}
+use Rattle.au_memory.specs.Forests.{Held, Forest, Holds, Made, Names, Core, AreShown, whole, all_lent, box_lent}
+use Rattle.au_memory.specs.Forests.{parts_lent, watching, shut, with_root, in_forest, in_list, IsHere}
 use Rattle.au_memory.specs.Forests.{IsPartLent, IsRooted, IsWatched, IsWhole, NameStands}
 use Rattle.au_memory.proofs.GrowthLemmas.{grows_self}
 use Rattle.au_memory.proofs.TotalLemmas.{root_other, root_self}
-use Rattle.au_memory.proofs.UsableLemmas.{root_below}
-use Rattle.au_lending.proofs.MoveLemmas.{Keeps, Parted, lent_moves, name_moves, node_of, parent_loan, part_stays}
-use Rattle.au_lending.proofs.MoveLemmas.{root_goes, shuts_loan}
+use Rattle.au_lending.proofs.MoveLemmas.{Keeps, Parted, lent_moves, name_moves, node_of, part_stays}
+use Rattle.au_lending.proofs.MoveLemmas.{root_goes}
 
 module _ (types : Types) (clock : ℕ) (scope act : ℕ → Bool) (hold : Holds) (type : ℕ → ℕ → Meaning)
     (under : Made) (s : Table) (m : Memory (List ℕ)) (core : Core types clock scope act hold type under s m)

@@ -19,7 +19,7 @@ use Rattle.au_memory.specs.Shown.{Shows, ShowsAll, Has, HasAll, AreDeclared}
 use Rattle.au_memory.proofs.CountLemmas.{none_left}
 use Rattle.au_lending.specs.Parting.{CasesAreAlone}
 use Rattle.au_lending.specs.Seeing.{LeadsOn}
-use Rattle.au_lending.proofs.CaseLemmas.{IsMade, made_form}
+use Rattle.au_lending.proofs.CaseLemmas.{made_form}
 
 -- ---- places
 

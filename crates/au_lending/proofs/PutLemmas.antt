@@ -1,10 +1,10 @@
 -- A part of Free type gives way to another value: of what a name holds, or of what a reference in it leads to.
-use Rattle.std.proofs.Common.{◌≡◌, ◌⊎◌, inl, inr, ℕ, ◌+◌, ◌≤◌, ◌<◌, Bool, true, false, List, [], ◌∷◌, refl, sym, ap}
+use Rattle.std.proofs.Common.{◌≡◌, ℕ, ◌+◌, ◌<◌, Bool, true, false, List, ◌∷◌, refl, sym, ap}
 use Rattle.std.proofs.Common.{subst, ◌∙◌, arith}
-use Rattle.std.specs.Prelude.{Option, Some, None, option_map}
+use Rattle.std.specs.Prelude.{Some, None, option_map}
 use Rattle.au_effects.specs.Parts.{along, part, with_part}
 use Rattle.au_effects.specs.References.{name_along, place_along}
-use Rattle.au_effects.specs.Values.{Fields, Place, made, name_of, reference}
+use Rattle.au_effects.specs.Values.{Place, name_of, reference}
 use Rattle.au_places.specs.Memories.{Memory, held_at, written}
 use Rattle.au_places.specs.Places.{Id, writer, cell_of, in_place, same_base}
 use Rattle.au_places.proofs.MemoryLemmas.{base_other, write_above, write_apart}
@@ -12,26 +12,26 @@ use Rattle.au_places.proofs.PlaceLemmas.{base_is, node_self}
 use Rattle.au_running_types.specs.Running.{token}
 use Rattle.au_types.specs.Types as meaning
 use Rattle.au_types.specs.Types.{Meaning}
-use Rattle.au_memory.specs.Trees.{Value, Tree, Trees, in_tree}
+use Rattle.au_memory.specs.Trees.{Value, Tree, in_tree}
 use Rattle.au_memory.specs.Loans.{Types, Loan, Table}
-use Rattle.au_memory.specs.Shown.{Shows, ShowsAll, Has, AreDeclared, AreLawful}
-use Rattle.au_memory.specs.Forests.{Held, Hold, Holds, Made, Names, Core, AreShown, whole, parts_lent, ready, shut}
+use Rattle.au_memory.specs.Shown.{Shows, Has, AreDeclared, AreLawful}
+use Rattle.au_memory.specs.Forests.{Held, Holds, Made, Names, Core, AreShown, whole, parts_lent, ready, shut}
 use Rattle.au_memory.specs.Forests.{with_root, in_root, in_forest, in_list, in_held, IsFull, IsNameRow, IsWatched}
 use Rattle.au_memory.specs.Forests.{IsWhole, NameStands}
 use Rattle.au_memory.proofs.FrameLemmas.{shows_all_written, shows_written}
 use Rattle.au_memory.proofs.FreeLemmas.{free_in}
-use Rattle.au_memory.proofs.GrowthLemmas.{grows_self}
 use Rattle.au_memory.proofs.TotalLemmas.{total_has, total_put, total_two}
 use Rattle.au_memory.proofs.UsableLemmas.{root_below, writer_is_loan}
+use Rattle.au_lending.specs.Laws.{IsReadable}
 use Rattle.au_lending.specs.Parting.{CasesAreAlone}
 use Rattle.au_lending.specs.Putting.{Put}
 use Rattle.au_lending.specs.Seeing.{LeadsOn}
-use Rattle.au_lending.proofs.ChangeLemmas.{Change, changed_core, changed_forest}
+use Rattle.au_lending.proofs.ChangeLemmas.{Change, changed_core}
 use Rattle.au_lending.proofs.FillLemmas.{first_shown}
-use Rattle.au_lending.proofs.MoveLemmas.{Parted, node_counts, node_of}
+use Rattle.au_lending.proofs.MoveLemmas.{node_counts, node_of}
 use Rattle.au_lending.proofs.PathLemmas.{PartPut, part_put_in, part_there, place_below, place_less, put_stands}
 use Rattle.au_lending.proofs.RebornLemmas.{NameHolds, name_holds}
-use Rattle.au_lending.proofs.RowLemmas.{Found, find, no_loan, one_root, row_of, same_names, watched_full}
+use Rattle.au_lending.proofs.RowLemmas.{find, no_loan, one_root, row_of, same_names, watched_full}
 use Rattle.au_lending.proofs.SwapLemmas.{shown_written}
 
 module _ (types : Types) (forms : AreDeclared types) (cases : CasesAreAlone types) (lawful : AreLawful types)
@@ -229,41 +229,42 @@ module _ (types : Types) (forms : AreDeclared types) (cases : CasesAreAlone type
         (part_put (core.root frame x) own.row (name_root own stands.1) path
         (subst (λ t. LeadsOn types t path u) (sym own.typed) leads))
 
-    -- ---- the root of a loan
+  -- ---- the root of a loan
 
-    module _ (t : Meaning) (z : ℕ) (typed : type frame x ≡ meaning.writes t (token z)) (scoped : scope z ≡ true) where
-      holds : NameHolds types forms clock scope act hold type Under s m core frame x t z is typed scoped
-      holds = name_holds types forms clock scope act hold type Under s m core frame x t z is typed scoped
+  module _ (frame x : ℕ) (looks : IsReadable (hold frame x)) (t : Meaning) (z : ℕ)
+      (typed : type frame x ≡ meaning.writes t (token z)) (scoped : scope z ≡ true) where
+    holds : NameHolds types forms clock scope act hold type Under s m core frame x t z looks typed scoped
+    holds = name_holds types forms clock scope act hold type Under s m core frame x t z looks typed scoped
 
-      no_root : (a y : ℕ) → IsFull (hold a y) → holds.loan ≡ core.root a y → ⊥
-      no_root a y there same =
-          no_loan s holds.loan a y (type a y) holds.row
-          (subst (λ i. IsNameRow s i a y (type a y)) (sym same)
-          (row_of types clock scope act hold type Under s m core a y there)) holds.has
-          (writer_is_loan holds.row.via holds.writes)
+    no_root : (a y : ℕ) → IsFull (hold a y) → holds.loan ≡ core.root a y → ⊥
+    no_root a y there same =
+        no_loan s holds.loan a y (type a y) holds.row
+        (subst (λ i. IsNameRow s i a y (type a y)) (sym same)
+        (row_of types clock scope act hold type Under s m core a y there)) holds.has
+        (writer_is_loan holds.row.via holds.writes)
 
-      loan_root : Root holds.loan holds.row
-      loan_root = record {
-        row = holds.has;
-        tree = holds.usable.tree;
-        value = holds.usable.value;
-        here = holds.usable.here;
-        typed = holds.usable.typed;
-        there = holds.usable.there;
-        shown = holds.usable.shown;
-        unshut = λ j y whose same.
-            no_root whose.frame whose.name (subst IsFull (sym whose.holds) tt) (same ∙ sym whose.is);
-        unseen = λ j y whose same.
-            no_root whose.frame whose.name (watched_full (hold whose.frame whose.name) y whose.holds)
-            (same ∙ sym whose.is);
-      }
+    loan_root : Root holds.loan holds.row
+    loan_root = record {
+      row = holds.has;
+      tree = holds.usable.tree;
+      value = holds.usable.value;
+      here = holds.usable.here;
+      typed = holds.usable.typed;
+      there = holds.usable.there;
+      shown = holds.usable.shown;
+      unshut = λ j y whose same.
+          no_root whose.frame whose.name (subst IsFull (sym whose.holds) tt) (same ∙ sym whose.is);
+      unseen = λ j y whose same.
+          no_root whose.frame whose.name (watched_full (hold whose.frame whose.name) y whose.holds)
+          (same ∙ sym whose.is);
+    }
 
-      pub put_behind_name : (path : List ℕ) → LeadsOn types t path u
-          → (borrow : ℕ) × (to : Place) × (m.at (name_of frame x) ≡ Some (reference borrow to))
-          × Put types clock scope act hold type v u under s m core (place_along to path)
-      put_behind_name path leads = (
-        holds.row.borrow,
-        holds.row.to,
-        holds.there,
-        part_put holds.loan holds.row loan_root path (subst (λ w. LeadsOn types w path u) (sym holds.its_type) leads),
-      )
+    pub put_behind_name : (path : List ℕ) → LeadsOn types t path u
+        → (borrow : ℕ) × (to : Place) × (m.at (name_of frame x) ≡ Some (reference borrow to))
+        × Put types clock scope act hold type v u under s m core (place_along to path)
+    put_behind_name path leads = (
+      holds.row.borrow,
+      holds.row.to,
+      holds.there,
+      part_put holds.loan holds.row loan_root path (subst (λ w. LeadsOn types w path u) (sym holds.its_type) leads),
+    )

@@ -1,10 +1,10 @@
 -- What read references see, and copies of what is Free.
-use Rattle.std.proofs.Common.{◌≡◌, ℕ, zero, suc, ◌+◌, ◌≤◌, Bool, true, List, [], ◌∷◌, ◌++◌, refl, sym, ap, subst}
+use Rattle.std.proofs.Common.{◌≡◌, ℕ, zero, suc, ◌+◌, Bool, true, List, [], ◌∷◌, ◌++◌, refl, sym, ap, subst}
 use Rattle.std.proofs.Common.{◌∙◌, append_assoc, append-nil, arith}
 use Rattle.std.specs.Prelude.{Option, Some, None, slice_get}
 use Rattle.au_effects.specs.Parts.{along, part}
 use Rattle.au_effects.specs.References.{name_along, place_along}
-use Rattle.au_effects.specs.Values.{Place, box, name_of, reference}
+use Rattle.au_effects.specs.Values.{Place, name_of, reference}
 use Rattle.au_places.specs.Memories.{Memory, held_at}
 use Rattle.au_places.specs.Places.{Id, content_place, part_at}
 use Rattle.au_running_types.specs.Running.{token}
@@ -16,19 +16,20 @@ use Rattle.au_memory.specs.Trees.{nth_tree, in_tree}
 use Rattle.au_memory.specs.Loans.{Types, Loan, Table, Point, LeadsTo, IsLoan, reading, field_point, inner_point}
 use Rattle.au_memory.specs.Loans.{point_at, start_of, step_point}
 use Rattle.au_memory.specs.Shown.{Shows, Has, HasAll, AreDeclared, AreLawful, Stands}
-use Rattle.au_memory.specs.Forests.{Holds, Made, Core, AreShown, Hold, whole, watching, empty, ready, shut, watched}
-use Rattle.au_memory.specs.Forests.{in_forest, in_list, IsLent, IsNameRow, IsRooted, IsWhole, NameStands}
-use Rattle.au_memory.proofs.FormLemmas.{IsReaderOf, reader_form}
+use Rattle.au_memory.specs.Forests.{Holds, Made, Core, AreShown, whole, watching}
+use Rattle.au_memory.specs.Forests.{in_forest, in_list, IsLent, IsRooted}
+use Rattle.au_memory.proofs.FormLemmas.{reader_form}
 use Rattle.au_memory.proofs.FreeLemmas.{free_in}
 use Rattle.au_memory.proofs.PointLemmas.{point_stands}
 use Rattle.au_lending.specs.Laws.{BoxesAreAlone, Dropped, IsReadable, Pushed}
 use Rattle.au_lending.specs.Parting.{CasesAreAlone}
 use Rattle.au_lending.specs.Seeing.{ContentSeen, Copied, LeadsOn, Looked, Moved, Sees, field_steps}
-use Rattle.au_lending.proofs.CaseLemmas.{IsMade, made_form}
+use Rattle.au_lending.proofs.CaseLemmas.{made_form}
 use Rattle.au_lending.proofs.FillLemmas.{first_shown}
-use Rattle.au_lending.proofs.RebornLemmas.{NameHolds, name_holds}
-use Rattle.au_lending.proofs.RemadeLemmas.{IsBox, box_form}
-use Rattle.au_lending.proofs.RowLemmas.{Found, find}
+use Rattle.au_lending.proofs.LookLemmas.{readable_stands}
+use Rattle.au_lending.proofs.RebornLemmas.{name_holds}
+use Rattle.au_lending.proofs.RemadeLemmas.{box_form}
+use Rattle.au_lending.proofs.RowLemmas.{find}
 use Rattle.au_lending.proofs.ValueLemmas.{dropped, pushed}
 
 -- ---- steps
@@ -228,11 +229,11 @@ module _ (types : Types) (forms : AreDeclared types) (clock : ℕ) (scope act : 
             form.leads.there;
       }
 
-  gone : Dropped types clock scope act hold type r (meaning.reads t (token z)) under s m core
+  pub gone : Dropped types clock scope act hold type r (meaning.reads t (token z)) under s m core
   gone = dropped types clock scope act hold type r (meaning.reads t (token z)) under s m core
 
   -- the reference counts for nothing
-  gone_counts : (id : Id) → in_forest id gone.after.top gone.after.forest + in_list id gone.after.trees
+  pub gone_counts : (id : Id) → in_forest id gone.after.top gone.after.forest + in_list id gone.after.trees
       ≡ in_forest id core.top core.forest + in_list id core.trees
   gone_counts id =
       let form = reader_form types forms s gone.tree t (token z) gone.typed in
@@ -299,18 +300,12 @@ module _ (types : Types) (forms : AreDeclared types) (clock : ℕ) (scope act : 
 module _ (types : Types) (forms : AreDeclared types) (cases : CasesAreAlone types) (lawful : AreLawful types)
     (clock : ℕ) (scope act : ℕ → Bool) (hold : Holds) (type : ℕ → ℕ → Meaning) (under : Made) (s : Table)
     (m : Memory (List ℕ)) (core : Core types clock scope act hold type under s m) (frame x : ℕ) where
-  readable : (h : Hold) → IsReadable h → NameStands types s core.forest m core.root frame x (type frame x) h
-      → IsNameRow s (core.root frame x) frame x (type frame x) × IsWhole (core.forest (core.root frame x))
-  readable empty is stands = absurd is
-  readable ready is stands = (stands.0, stands.1)
-  readable (shut z) is stands = absurd is
-  readable (watched tokens) is stands = (stands.0, stands.1)
-
   pub looked : IsReadable (hold frame x) → (path : List ℕ) (u : Meaning) → LeadsOn types (type frame x) path u
       → types.is_free u ≡ true
       → Looked types clock scope act hold type under s m core frame x (name_along frame x path) u
   looked is path u leads free =
-      let own = readable (hold frame x) is (core.names frame x) in
+      let own = readable_stands types s core.forest m core.root frame x (type frame x) (hold frame x) is
+      (core.names frame x) in
       let found = find types clock scope act hold type under s m core frame x own.0 own.1 in
       let row = core.rooted (core.root frame x) (whole (name_along frame x []) found.tree) found.here in
       let stands : Stands types s m (point_of found.tree (type frame x) (name_along frame x [])) = record {
@@ -323,7 +318,7 @@ module _ (types : Types) (forms : AreDeclared types) (cases : CasesAreAlone type
       (point_of found.tree (type frame x) (name_along frame x [])) stands path u leads free in
       record { value = now.value; there = now.there; after = now.more.after; counts = λ id. now.more.counts id }
 
-  pub looked_behind : hold frame x ≡ ready → (t : Meaning) (z : ℕ) → type frame x ≡ meaning.writes t (token z)
+  pub looked_behind : IsReadable (hold frame x) → (t : Meaning) (z : ℕ) → type frame x ≡ meaning.writes t (token z)
       → scope z ≡ true → (path : List ℕ) (u : Meaning) → LeadsOn types t path u → types.is_free u ≡ true
       → (borrow : ℕ) × (to : Place) × (m.at (name_of frame x) ≡ Some (reference borrow to))
       × Looked types clock scope act hold type under s m core frame x (place_along to path) u

@@ -1,18 +1,18 @@
 -- A token ends: all its loans end, the newest first, and no name waits for it any more.
 use Rattle.std.proofs.Common.{◌≡◌, ◌⊎◌, inl, inr, ℕ, zero, suc, ◌+◌, ◌≤◌, ◌<◌, ◌==◌, Bool, true, false, List, [], ◌∷◌}
 use Rattle.std.proofs.Common.{refl, sym, ap, subst, ◌∙◌, arith, if◌then◌else◌}
-use Rattle.std.specs.Prelude.{Option, Some, None, slice_get}
+use Rattle.std.specs.Prelude.{Option, Some, None}
 use Rattle.std.proofs.lemmas.Bool.{cases_eq, cases_lt, eq-eqb, eqb-true, ne_eqb}
 use Rattle.au_effects.specs.Values.{Place, name_of}
 use Rattle.au_places.specs.Memories.{Memory}
-use Rattle.au_places.specs.Places.{Id, writer, part_at, same_base}
+use Rattle.au_places.specs.Places.{Id, writer, same_base}
 use Rattle.au_types.specs.Types.{Meaning}
 use Rattle.au_memory.specs.Trees.{Tree}
 use Rattle.au_memory.specs.Loans.{Types, Loan, Table, Via, named, lent_of, lent_through, part_of, reading, IsLoan, IsWriter}
 use Rattle.au_memory.specs.Loans.{parent_of}
-use Rattle.au_memory.specs.Forests.{Held, Forest, Hold, Holds, Made, Names, Roots, Core, whole, all_lent, box_lent}
+use Rattle.au_memory.specs.Forests.{Held, Forest, Hold, Holds, Made, Names, Core, whole, all_lent, box_lent}
 use Rattle.au_memory.specs.Forests.{parts_lent, watching, empty, ready, shut, watched, with_root, in_root, in_forest}
-use Rattle.au_memory.specs.Forests.{in_list, IsAmong, IsFull, IsHere, IsLent, IsNameRow, IsPart, IsPartLent, IsRooted}
+use Rattle.au_memory.specs.Forests.{in_list, IsAmong, IsFull, IsHere, IsLent, IsNameRow, IsPartLent, IsRooted}
 use Rattle.au_memory.specs.Forests.{IsWatched, LendsAll, NameStands, Shuts}
 use Rattle.au_memory.proofs.GrowthLemmas.{grows_self}
 use Rattle.au_memory.proofs.TotalLemmas.{root_other, root_self, total_put}
@@ -21,7 +21,7 @@ use Rattle.au_lending.specs.Ending.{TokenEnded, freed, left_watched, others_of, 
 use Rattle.au_lending.specs.Holding.{with_hold}
 use Rattle.au_lending.specs.Parting.{Rejoined}
 use Rattle.au_lending.proofs.EndLemmas.{ended}
-use Rattle.au_lending.proofs.MoveLemmas.{Keeps, lends_loan, lends_parent, lent_moves, name_moves, parent_loan, part_stays}
+use Rattle.au_lending.proofs.MoveLemmas.{Keeps, lends_parent, lent_moves, name_moves, parent_loan, part_stays}
 use Rattle.au_lending.proofs.MoveLemmas.{root_moves, shuts_loan}
 use Rattle.au_lending.proofs.LendLemmas.{lends_write}
 use Rattle.au_lending.proofs.RejoinLemmas.{get_some, parent_row, part_ends, part_here}

@@ -5,3 +5,4 @@ pub mod Ending
 pub mod Records
 pub mod Seeing
 pub mod Putting
+pub mod Buffers

@@ -10,6 +10,7 @@ use Rattle.au_memory.specs.Forests.{Core, Holds, Made, ready, in_forest, in_list
 use Rattle.au_memory.specs.Loans.{Types, Table}
 use Rattle.au_memory.specs.Shown.{AreDeclared, AreLawful}
 use Rattle.au_memory.specs.Trees.{Value}
+use Rattle.au_lending.specs.Laws.{IsReadable}
 use Rattle.au_lending.specs.Parting.{CasesAreAlone}
 use Rattle.au_lending.specs.Seeing.{LeadsOn}
 
@@ -33,10 +34,11 @@ module _ (types : Types) (clock : ℕ) (scope act : ℕ → Bool) (hold : Holds)
       → (path : List ℕ) → LeadsOn types (type frame x) path u → types.is_free u ≡ true
       → Put (name_along frame x path)
 
-  -- The same behind a write reference in a name that is ready, while the region of its type is in scope.
+  -- The same behind a write reference in a name that is ready, or lent to read, while the region of its type is in
+  -- scope.
   abbrev pub PartsArePutBehind : Type 0
   PartsArePutBehind =
-      AreDeclared types → CasesAreAlone types → AreLawful types → (frame x : ℕ) → hold frame x ≡ ready
+      AreDeclared types → CasesAreAlone types → AreLawful types → (frame x : ℕ) → IsReadable (hold frame x)
       → (t : Meaning) (z : ℕ) → type frame x ≡ writes t (token z) → scope z ≡ true
       → (path : List ℕ) → LeadsOn types t path u → types.is_free u ≡ true
       → (borrow : ℕ) × (to : Place) × (m.at (name_of frame x) ≡ Some (reference borrow to))

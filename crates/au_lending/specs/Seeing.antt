@@ -6,7 +6,7 @@ use Rattle.au_places.specs.Memories.{Memory, held_at}
 use Rattle.au_places.specs.Places.{Id, content_place}
 use Rattle.au_running_types.specs.Running.{token}
 use Rattle.au_types.specs.Types.{Meaning, reads, writes}
-use Rattle.au_memory.specs.Forests.{Core, Holds, Made, ready, in_forest, in_list}
+use Rattle.au_memory.specs.Forests.{Core, Holds, Made, in_forest, in_list}
 use Rattle.au_memory.specs.Loans.{Types, Loan, Table, Point, LeadsTo, point_at}
 use Rattle.au_memory.specs.Shown.{AreDeclared, AreLawful, Stands}
 use Rattle.au_memory.specs.Trees.{Step, Value, field}
@@ -119,10 +119,10 @@ module _ (types : Types) (clock : ℕ) (scope act : ℕ → Bool) (hold : Holds)
       (u : Meaning) → LeadsOn types (type frame x) path u → types.is_free u ≡ true
       → Looked (name_along frame x path) u
 
-  -- The same behind a write reference in a name that is ready, while the region of its type is in scope.
+  -- The same behind a write reference in a name, while the region of its type is in scope.
   abbrev pub NamesLookBehind : Type 0
   NamesLookBehind =
-      AreDeclared types → CasesAreAlone types → AreLawful types → hold frame x ≡ ready → (t : Meaning) (z : ℕ)
+      AreDeclared types → CasesAreAlone types → AreLawful types → IsReadable (hold frame x) → (t : Meaning) (z : ℕ)
       → type frame x ≡ writes t (token z) → scope z ≡ true → (path : List ℕ) (u : Meaning)
       → LeadsOn types t path u → types.is_free u ≡ true
       → (borrow : ℕ) × (to : Place) × (m.at (name_of frame x) ≡ Some (reference borrow to))

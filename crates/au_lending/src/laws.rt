@@ -13,6 +13,7 @@ ghost use Rattle.au_lending.specs.Laws.{NamesAreRead};
 ghost use Rattle.au_lending.specs.Laws.{NamesFill, NamesLend};
 ghost use Rattle.au_lending.specs.Laws.{ReferencesLend, ReferencesSwap};
 ghost use Rattle.au_lending.specs.Parting.{PartsAreLent, PartsRejoin};
+ghost use Rattle.au_lending.specs.Buffers.{BuffersAreMade, BuffersEnd, ItemsArePut, ItemsAreSeen, ItemsAreTaken};
 ghost use Rattle.au_lending.specs.Ending.{TokensEnd};
 ghost use Rattle.au_lending.specs.Putting.{PartsArePut, PartsArePutBehind};
 ghost use Rattle.au_lending.specs.Records.{onto, RecordsAreMade, RecordsOpen};
@@ -200,4 +201,41 @@ pub fn parts_are_put()
         (type : ℕ → ℕ → Meaning) (v : Value) (u : Meaning) (under : Made) (s : Table) (m : Memory (List ℕ))
         (core : Core types clock scope act hold type ((v, u) ∷ under) s m)
         → PartsArePutBehind types clock scope act hold type v u under s m core }
+{}
+
+/// Behind a write reference whose token is in scope the newest value becomes the last element of a buffer, or is
+/// exchanged for one.
+pub fn items_are_put()
+    ensures { (types : Types) (clock : ℕ) (scope act : ℕ → Bool) (hold : Holds) (type : ℕ → ℕ → Meaning)
+        (new r : Value) (t of : Meaning) (z : ℕ) (under : Made) (s : Table) (m : Memory (List ℕ))
+        (core : Core types clock scope act hold type ((new, of) ∷ (r, writes t (token z)) ∷ under) s m)
+        → ItemsArePut types clock scope act hold type new r t of z under s m core }
+{}
+
+/// The last element of a buffer may be taken out through such a reference.
+pub fn items_are_taken()
+    ensures { (types : Types) (clock : ℕ) (scope act : ℕ → Bool) (hold : Holds) (type : ℕ → ℕ → Meaning)
+        (r : Value) (t of : Meaning) (z : ℕ) (under : Made) (s : Table) (m : Memory (List ℕ))
+        (core : Core types clock scope act hold type ((r, writes t (token z)) ∷ under) s m)
+        → ItemsAreTaken types clock scope act hold type r t of z under s m core }
+{}
+
+/// A buffer is made without elements, and ends where it has none.
+pub fn buffers_are_made_and_end()
+    ensures made { (types : Types) (clock : ℕ) (scope act : ℕ → Bool) (hold : Holds)
+        (type : ℕ → ℕ → Meaning) (under : Made) (s : Table) (m : Memory (List ℕ))
+        (core : Core types clock scope act hold type under s m) (t of : Meaning) (i : ℕ)
+        → BuffersAreMade types clock scope act hold type under s m core t of i }
+    ensures ended { (types : Types) (clock : ℕ) (scope act : ℕ → Bool) (hold : Holds)
+        (type : ℕ → ℕ → Meaning) (v : Value) (t of : Meaning) (under : Made) (s : Table) (m : Memory (List ℕ))
+        (core : Core types clock scope act hold type ((v, t) ∷ under) s m)
+        → BuffersEnd types clock scope act hold type v t of under s m core }
+{}
+
+/// While its token is in scope a read reference to a buffer leads to its elements, and what is Free is copied.
+pub fn items_are_seen()
+    ensures { (types : Types) (clock : ℕ) (scope act : ℕ → Bool) (hold : Holds) (type : ℕ → ℕ → Meaning)
+        (r : Value) (t : Meaning) (z : ℕ) (under : Made) (s : Table) (m : Memory (List ℕ))
+        (core : Core types clock scope act hold type ((r, reads t (token z)) ∷ under) s m)
+        → ItemsAreSeen types clock scope act hold type r t z under s m core }
 {}
