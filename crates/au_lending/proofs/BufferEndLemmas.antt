@@ -136,7 +136,7 @@ module _ (types : Types) (forms : AreDeclared types) (buffers : BuffersAreAlone 
         let none = no_element types s m shown.0 form.all id ended shown.3 in
         omega arith
 
-    gone : BufferGone types clock scope act hold type v t under s m core form.born
+    gone : BufferGone types clock scope act hold type v t of under s m core form.born
     unfolding items_remade remade
     gone = record {
       after = items_remade types clock scope act hold type ((v, t) ∷ under) s m core form.born None alone.0 under first.1

@@ -1,15 +1,15 @@
 -- What is said of a root, of a loan and of a name goes over to another forest and another memory, where what it
 -- speaks of is as it was.
-use Rattle.std.proofs.Common.{◌≡◌, ◌⊎◌, inl, inr, ℕ, ◌+◌, ◌≤◌, List, [], ◌∷◌, refl, sym, ap, subst, ◌∙◌, arith}
-use Rattle.std.specs.Prelude.{Option, Some, None, drop, slice_get}
+use Rattle.std.proofs.Common.{◌≡◌, inl, inr, ℕ, ◌+◌, ◌≤◌, List, refl, sym, ap, subst, ◌∙◌, arith}
+use Rattle.std.specs.Prelude.{Option, Some, None, drop}
 use Rattle.au_effects.specs.Values.{Fields, Place, name_of, box, made}
 use Rattle.au_places.specs.Memories.{Memory, held_at, later}
-use Rattle.au_places.specs.Places.{Id, writer, cell_of, content_place, in_node, in_place, part_at}
+use Rattle.au_places.specs.Places.{Id, writer, cell_of, content_place, in_node, part_at}
 use Rattle.au_types.specs.Types.{Meaning}
-use Rattle.au_memory.specs.Trees.{Value, Tree, Trees, a_writer}
+use Rattle.au_memory.specs.Trees.{Value, Tree, Trees}
 use Rattle.au_memory.specs.Loans.{Types, Loan, Table, Grows, Via, named, lent_of, lent_through, part_of, reading}
 use Rattle.au_memory.specs.Loans.{IsLoan, parent_of}
-use Rattle.au_memory.specs.Shown.{Shows, ShowsAll, Has}
+use Rattle.au_memory.specs.Shown.{Shows, ShowsAll}
 use Rattle.au_memory.specs.Forests.{Held, Forest, Hold, Holds, Roots, Names, whole, all_lent, box_lent, parts_lent}
 use Rattle.au_memory.specs.Forests.{watching, empty, ready, shut, watched, IsHere, IsPart, IsRooted, IsLent, IsFull}
 use Rattle.au_memory.specs.Forests.{IsPartLent, IsWatched, IsWhole, IsNameRow, LendsAll, NameStands, Shuts, in_held}

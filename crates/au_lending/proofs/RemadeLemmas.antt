@@ -1,10 +1,10 @@
 -- Values under way are made anew, with memory that no root has: boxes are made and opened.
-use Rattle.std.proofs.Common.{◌≡◌, ◌⊎◌, inl, inr, ℕ, suc, ◌+◌, ◌≤◌, ◌<◌, ◌==◌, Bool, true, false, List, [], ◌∷◌}
+use Rattle.std.proofs.Common.{◌≡◌, ℕ, ◌+◌, ◌≤◌, ◌==◌, Bool, true, false, List, [], ◌∷◌}
 use Rattle.std.proofs.Common.{refl, sym, ap, subst, ◌∙◌, arith, if◌then◌else◌}
 use Rattle.std.specs.Prelude.{Option, Some, None}
-use Rattle.std.proofs.lemmas.Bool.{cases_lt, eqb-true}
+use Rattle.std.proofs.lemmas.Bool.{eqb-true}
 use Rattle.au_effects.specs.Parts.{along, part}
-use Rattle.au_effects.specs.Values.{Base, Fields, Place, unit, truth, number, text, made, reference, box, buffer}
+use Rattle.au_effects.specs.Values.{Fields, Place, unit, truth, number, text, made, reference, box, buffer}
 use Rattle.au_effects.specs.Values.{terminal, root, name_of, content_of}
 use Rattle.au_places.specs.Memories.{Memory, held_at, later, with_base}
 use Rattle.au_places.specs.Places.{Id, birth, cell, writer, cell_of, covers, in_node, in_place, one_if, same_base}
@@ -15,11 +15,11 @@ use Rattle.au_types.specs.Types as meaning
 use Rattle.au_types.specs.Types.{Arguments, Meaning}
 use Rattle.au_types.specs.declared.types.DeclAt.{DeclAt}
 use Rattle.au_memory.specs.Trees.{Value, Tree, Trees, a_plain, a_made, a_box, a_buffer, a_terminal, a_root, a_writer}
-use Rattle.au_memory.specs.Trees.{a_reader, in_birth, in_tree, in_trees}
+use Rattle.au_memory.specs.Trees.{a_reader, in_birth, in_tree}
 use Rattle.au_memory.specs.Loans.{Types, Loan, Table}
 use Rattle.au_memory.specs.Shown.{Shows, ShowsAll, Has, IsPlain, IsDeclared, AreDeclared}
 use Rattle.au_memory.specs.Forests.{Held, Holds, Made, Core, AreShown, whole, all_lent, box_lent, parts_lent, watching}
-use Rattle.au_memory.specs.Forests.{in_root, in_forest, in_list, in_held, IsRooted, NameStands}
+use Rattle.au_memory.specs.Forests.{in_root, in_forest, in_list, in_held, IsRooted}
 use Rattle.au_memory.proofs.CountLemmas.{any_path, none_left}
 use Rattle.au_memory.proofs.FrameLemmas.{shows_all_base, shows_base}
 use Rattle.au_memory.proofs.FreeLemmas.{no_content}
