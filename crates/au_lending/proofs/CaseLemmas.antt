@@ -1,10 +1,10 @@
 -- A value of a case behind a write reference is taken apart: its parts are lent, one by one.
 use Rattle.std.proofs.Common.{◌≡◌, ℕ, zero, suc, ◌+◌, ◌≤◌, ◌<◌, Bool, true, List, [], ◌∷◌, refl, sym, ap, subst, ◌∙◌}
 use Rattle.std.proofs.Common.{arith, ◌⊎◌, inl, inr}
-use Rattle.std.specs.Prelude.{Option, Some, None, drop, is_some, length, not, slice_get}
+use Rattle.std.specs.Prelude.{Option, Some, drop, is_some, length, not, slice_get}
 use Rattle.std.proofs.lemmas.Bool.{cases_lt}
-use Rattle.au_effects.specs.Parts.{nth_field, field}
-use Rattle.au_effects.specs.Values.{Fields, Place, no_fields, field_then, made, reference}
+use Rattle.au_effects.specs.Parts.{nth_field}
+use Rattle.au_effects.specs.Values.{Fields, no_fields, field_then, made, reference}
 use Rattle.au_places.specs.Memories.{Memory, held_at, later}
 use Rattle.au_places.specs.Places.{Id, birth, writer, in_node, in_place, part_at}
 use Rattle.au_places.proofs.PlaceLemmas.{split_place}

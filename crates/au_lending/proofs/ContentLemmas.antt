@@ -1,19 +1,19 @@
 -- The content of a box behind a write reference is lent.
-use Rattle.std.proofs.Common.{◌≡◌, ℕ, suc, ◌+◌, ◌≤◌, Bool, true, List, [], ◌∷◌, refl, sym, ap, subst, ◌∙◌, arith}
+use Rattle.std.proofs.Common.{◌≡◌, ℕ, suc, ◌+◌, ◌≤◌, Bool, true, List, ◌∷◌, refl, sym, ap, subst, ◌∙◌, arith}
 use Rattle.std.specs.Prelude.{Some}
-use Rattle.au_effects.specs.Values.{Place, box, content_of, reference}
+use Rattle.au_effects.specs.Values.{box, content_of, reference}
 use Rattle.au_places.specs.Memories.{Memory, held_at}
 use Rattle.au_places.specs.Places.{Id, writer, content_place, in_place}
 use Rattle.au_places.proofs.MemoryLemmas.{all_held}
 use Rattle.au_running_types.specs.Running.{token}
 use Rattle.au_types.specs.Types as meaning
 use Rattle.au_types.specs.Types.{Meaning}
-use Rattle.au_memory.specs.Trees.{Value, Tree, a_box, a_writer, in_birth, in_tree, in_writer}
+use Rattle.au_memory.specs.Trees.{Value, Tree, a_box, a_writer, in_tree, in_writer}
 use Rattle.au_memory.specs.Loans.{Types, Loan, Table}
 use Rattle.au_memory.specs.Shown.{Shows, Has, AreDeclared}
 use Rattle.au_memory.specs.Forests.{Held, Holds, Made, Core, AreShown, Usable, whole, box_lent, in_forest, in_list, in_held}
 use Rattle.au_memory.specs.Forests.{all_lent, watching}
-use Rattle.au_memory.specs.Forests.{IsHere, IsPart, IsRooted}
+use Rattle.au_memory.specs.Forests.{IsHere, IsRooted}
 use Rattle.au_memory.proofs.CountLemmas.{writer_in}
 use Rattle.au_memory.proofs.FormLemmas.{IsWriterOf, writer_form}
 use Rattle.au_memory.proofs.UsableLemmas.{usable}

@@ -1,16 +1,16 @@
 -- A loan of all that a root held ends: its tree goes back, and the name that it was lent from may be used again.
-use Rattle.std.proofs.Common.{◌≡◌, ◌⊎◌, inl, inr, ℕ, suc, ◌+◌, ◌≤◌, ◌<◌, Bool, true, false, List, [], ◌∷◌}
+use Rattle.std.proofs.Common.{◌≡◌, ◌⊎◌, inl, inr, ℕ, ◌+◌, ◌<◌, Bool, true, false, List}
 use Rattle.std.proofs.Common.{refl, sym, ap, subst, ◌∙◌, arith, if◌then◌else◌}
 use Rattle.std.specs.Prelude.{Option, Some, None}
 use Rattle.std.proofs.lemmas.Bool.{cases_eq}
 use Rattle.au_effects.specs.Values.{Place, name_of}
-use Rattle.au_places.specs.Memories.{Memory, held_at}
+use Rattle.au_places.specs.Memories.{Memory}
 use Rattle.au_places.specs.Places.{Id, writer, same_base}
 use Rattle.au_types.specs.Types.{Meaning}
-use Rattle.au_memory.specs.Trees.{Value, Tree, a_writer}
+use Rattle.au_memory.specs.Trees.{Tree, a_writer}
 use Rattle.au_memory.specs.Loans.{Types, Loan, Table, Via, named, lent_of, lent_through, part_of, reading, IsLoan}
 use Rattle.au_memory.specs.Loans.{parent_of}
-use Rattle.au_memory.specs.Shown.{Shows, Has}
+use Rattle.au_memory.specs.Shown.{Has}
 use Rattle.au_memory.specs.Forests.{Held, Forest, Hold, Holds, Made, Names, Core, whole, all_lent, box_lent, parts_lent}
 use Rattle.au_memory.specs.Forests.{watching, empty, ready, shut, watched, with_root, in_root, in_forest, in_list}
 use Rattle.au_memory.specs.Forests.{IsFull, IsHere, IsLent, IsNameRow, IsPartLent, IsRooted, IsWatched, IsWhole}

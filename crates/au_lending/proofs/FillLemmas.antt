@@ -1,22 +1,21 @@
 -- A name that is empty takes the newest value under way.
-use Rattle.std.proofs.Common.{◌≡◌, ◌⊎◌, inl, inr, ℕ, zero, suc, ◌+◌, ◌≤◌, ◌<◌, ◌==◌, Bool, true, false, List, []}
+use Rattle.std.proofs.Common.{◌≡◌, ◌⊎◌, inl, inr, ℕ, zero, suc, ◌+◌, ◌≤◌, ◌<◌, Bool, true, false, List, []}
 use Rattle.std.proofs.Common.{◌∷◌, refl, sym, ap, subst, ◌∙◌, arith, if◌then◌else◌}
 use Rattle.std.specs.Prelude.{Option, Some, None}
-use Rattle.std.proofs.lemmas.Bool.{cases_eq, cases_lt, eq-eqb, ne_eqb}
+use Rattle.std.proofs.lemmas.Bool.{cases_eq, eq-eqb, ne_eqb}
 use Rattle.au_effects.specs.Parts.{along, part}
 use Rattle.au_effects.specs.References.{name_along}
 use Rattle.au_effects.specs.Values.{Base, Place, box, made, name_of}
 use Rattle.au_places.specs.Memories.{Memory, held_at, with_base}
 use Rattle.au_places.specs.Places.{Id, birth, cell, writer, cell_of, covers, in_node, in_place, same_base}
 use Rattle.au_places.proofs.MemoryLemmas.{all_held, base_other, base_self}
-use Rattle.au_places.proofs.PlaceLemmas.{base_is, base_turned, node_most, self_base}
+use Rattle.au_places.proofs.PlaceLemmas.{base_is, node_most, self_base}
 use Rattle.au_types.specs.Types.{Meaning}
-use Rattle.au_memory.specs.Trees.{Value, Tree, in_birth, in_tree}
-use Rattle.au_memory.specs.Loans.{Types, Loan, Table, Grows, Via, named, lent_of, lent_through, part_of, reading, IsLoan}
-use Rattle.au_memory.specs.Loans.{parent_of}
+use Rattle.au_memory.specs.Trees.{Value, Tree}
+use Rattle.au_memory.specs.Loans.{Types, Loan, Table, Grows, IsLoan}
 use Rattle.au_memory.specs.Shown.{Shows, Has}
-use Rattle.au_memory.specs.Forests.{Held, Forest, Hold, Holds, Made, Names, Roots, Core, AreShown, whole, all_lent}
-use Rattle.au_memory.specs.Forests.{box_lent, parts_lent, watching, empty, ready, shut, with_root, in_root, in_forest}
+use Rattle.au_memory.specs.Forests.{Held, Forest, Holds, Made, Names, Roots, Core, AreShown, whole, all_lent}
+use Rattle.au_memory.specs.Forests.{box_lent, parts_lent, watching, empty, ready, with_root, in_root, in_forest}
 use Rattle.au_memory.specs.Forests.{in_list, in_held, IsFull, IsHere, IsLent, IsNameRow, IsPartLent, IsRooted, IsWatched}
 use Rattle.au_memory.specs.Forests.{IsWhole, NameStands}
 use Rattle.au_memory.proofs.CountLemmas.{no_name, no_names}

@@ -1,20 +1,19 @@
 -- All that a root holds is lent to write: its tree goes over to a new loan, and the name that it is lent from is shut.
-use Rattle.std.proofs.Common.{◌≡◌, ◌⊎◌, inl, inr, ℕ, zero, suc, ◌+◌, ◌≤◌, ◌<◌, ◌==◌, Bool, true, false, List, []}
+use Rattle.std.proofs.Common.{◌≡◌, ◌⊎◌, inl, inr, ℕ, suc, ◌+◌, ◌≤◌, ◌<◌, ◌==◌, Bool, true, false, List, []}
 use Rattle.std.proofs.Common.{◌∷◌, refl, sym, ap, subst, ◌∙◌, arith, if◌then◌else◌}
 use Rattle.std.specs.Prelude.{Option, Some, None, drop}
 use Rattle.std.proofs.lemmas.Bool.{cases_eq, cases_lt, eqb-true, ne_eqb}
-use Rattle.au_effects.specs.References.{name_along}
 use Rattle.au_effects.specs.Values.{Place, name_of, reference}
-use Rattle.au_places.specs.Memories.{Memory, held_at}
-use Rattle.au_places.specs.Places.{Id, birth, cell, writer, in_place, one_if, same_base}
+use Rattle.au_places.specs.Memories.{Memory}
+use Rattle.au_places.specs.Places.{Id, birth, cell, writer, one_if, same_base}
 use Rattle.au_places.proofs.PlaceLemmas.{self_base}
 use Rattle.au_running_types.specs.Running.{token}
 use Rattle.au_types.specs.Types as meaning
 use Rattle.au_types.specs.Types.{Meaning}
-use Rattle.au_memory.specs.Trees.{Value, Tree, Trees, a_writer, no_trees, tree_then, in_birth, in_tree, in_trees, in_writer}
-use Rattle.au_memory.specs.Loans.{Types, Loan, Table, Grows, Via, named, lent_of, lent_through, IsLoan, IsWriter}
+use Rattle.au_memory.specs.Trees.{Tree, Trees, a_writer, no_trees, tree_then, in_birth, in_tree, in_trees, in_writer}
+use Rattle.au_memory.specs.Loans.{Types, Loan, Table, Grows, Via, lent_through, IsLoan, IsWriter}
 use Rattle.au_memory.specs.Loans.{parent_of}
-use Rattle.au_memory.specs.Shown.{Shows, Has, HasAll}
+use Rattle.au_memory.specs.Shown.{Has, HasAll}
 use Rattle.au_memory.specs.Forests.{Held, Forest, Hold, Holds, Made, Names, Core, whole, all_lent, box_lent, parts_lent}
 use Rattle.au_memory.specs.Forests.{watching, empty, ready, shut, watched, with_root, in_root, in_forest, in_list, in_held}
 use Rattle.au_memory.specs.Forests.{IsFull, IsHere, AreShown, IsLent, IsNameRow, IsPartLent, IsRooted, IsWatched, IsWhole}
@@ -28,7 +27,7 @@ use Rattle.au_lending.specs.Laws.{Lent, lent_row}
 use Rattle.au_lending.proofs.FillLemmas.{row_grows, row_other, row_self, shown_grows, total_none}
 use Rattle.au_lending.proofs.MoveLemmas.{Keeps, lends_parent, lent_moves, name_moves, parent_loan, root_moves, shuts_loan}
 use Rattle.au_lending.proofs.MoveLemmas.{part_stays}
-use Rattle.au_lending.proofs.RowLemmas.{Found, find, no_loan, one_name, one_root, row_of, same_names, watched_full}
+use Rattle.au_lending.proofs.RowLemmas.{row_of, same_names, watched_full}
 
 -- ---- what lends all writes
 

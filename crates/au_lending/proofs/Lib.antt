@@ -5,6 +5,7 @@ pub mod FillLemmas
 pub mod LendLemmas
 pub mod NameLendLemmas
 pub mod ValueLemmas
+pub mod LookLemmas
 pub mod RebornLemmas
 pub mod SwapLemmas
 pub mod TokenLemmas
@@ -15,4 +16,15 @@ pub mod PartLemmas
 pub mod ContentLemmas
 pub mod CaseLemmas
 pub mod RejoinLemmas
+pub mod TokenEndLemmas
 pub mod RecordLemmas
+pub mod SeenLemmas
+pub mod ChangeLemmas
+pub mod PathLemmas
+pub mod PutLemmas
+pub mod ItemLemmas
+pub mod RefillLemmas
+pub mod BufferLemmas
+pub mod TakenLemmas
+pub mod BufferEndLemmas
+pub mod BufferSeenLemmas

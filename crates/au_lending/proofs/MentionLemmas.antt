@@ -13,20 +13,19 @@ use Rattle.au_places.proofs.PlaceLemmas.{base_is}
 use Rattle.au_types.specs.Types.{Meaning}
 use Rattle.au_memory.specs.Trees.{Value, Tree, in_tree}
 use Rattle.au_memory.specs.Loans.{Types, Loan, Table, IsLoan}
-use Rattle.au_memory.specs.Shown.{Shows, Has}
-use Rattle.au_memory.specs.Forests.{Held, Forest, Hold, Holds, Made, Names, Core, AreShown, whole, all_lent, empty}
+use Rattle.au_memory.specs.Forests.{Held, Forest, Holds, Made, Core, AreShown, whole, empty}
 use Rattle.au_memory.specs.Forests.{ready, shut, with_root, in_root, in_forest, in_list, in_held, IsFull, IsHere}
 use Rattle.au_memory.specs.Forests.{IsLent, IsNameRow, IsPartLent, IsRooted, IsWatched, IsWhole, NameStands}
 use Rattle.au_memory.proofs.CountLemmas.{no_name, no_names}
 use Rattle.au_memory.proofs.FrameLemmas.{shows_all_base, shows_base}
 use Rattle.au_memory.proofs.GrowthLemmas.{grows_self}
 use Rattle.au_memory.proofs.TotalLemmas.{root_other, root_self, total_put, total_two}
-use Rattle.au_memory.proofs.UsableLemmas.{count, root_below}
+use Rattle.au_memory.proofs.UsableLemmas.{root_below}
 use Rattle.au_lending.specs.Holding.{with_hold}
 use Rattle.au_lending.specs.Laws.{Mentioned}
 use Rattle.au_lending.proofs.MoveLemmas.{Keeps, lent_moves, name_moves, parent_loan, root_moves, shuts_loan}
 use Rattle.au_lending.proofs.MoveLemmas.{part_stays}
-use Rattle.au_lending.proofs.RowLemmas.{Found, find, name_apart, no_loan, one_name, one_root, row_of, same_names, watched_full}
+use Rattle.au_lending.proofs.RowLemmas.{Found, find, name_apart, no_loan, one_name, one_root, same_names, watched_full}
 
 -- values under way don't rest on names
 pub shown_without : (types : Types) (s : Table) (m : Memory (List ℕ)) (frame x : ℕ) (o : Option Value) (vs : Made)

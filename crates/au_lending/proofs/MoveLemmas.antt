@@ -1,15 +1,15 @@
 -- What is said of a root, of a loan and of a name goes over to another forest and another memory, where what it
 -- speaks of is as it was.
-use Rattle.std.proofs.Common.{◌≡◌, ◌⊎◌, inl, inr, ℕ, ◌+◌, ◌≤◌, List, [], ◌∷◌, refl, sym, ap, subst, ◌∙◌, arith}
-use Rattle.std.specs.Prelude.{Option, Some, None, drop, slice_get}
+use Rattle.std.proofs.Common.{◌≡◌, inl, inr, ℕ, ◌+◌, ◌≤◌, List, refl, sym, ap, subst, ◌∙◌, arith}
+use Rattle.std.specs.Prelude.{Option, Some, None, drop}
 use Rattle.au_effects.specs.Values.{Fields, Place, name_of, box, made}
 use Rattle.au_places.specs.Memories.{Memory, held_at, later}
-use Rattle.au_places.specs.Places.{Id, writer, cell_of, content_place, in_node, in_place, part_at}
+use Rattle.au_places.specs.Places.{Id, writer, cell_of, content_place, in_node, part_at}
 use Rattle.au_types.specs.Types.{Meaning}
-use Rattle.au_memory.specs.Trees.{Value, Tree, Trees, a_writer}
+use Rattle.au_memory.specs.Trees.{Value, Tree, Trees}
 use Rattle.au_memory.specs.Loans.{Types, Loan, Table, Grows, Via, named, lent_of, lent_through, part_of, reading}
 use Rattle.au_memory.specs.Loans.{IsLoan, parent_of}
-use Rattle.au_memory.specs.Shown.{Shows, ShowsAll, Has}
+use Rattle.au_memory.specs.Shown.{Shows, ShowsAll}
 use Rattle.au_memory.specs.Forests.{Held, Forest, Hold, Holds, Roots, Names, whole, all_lent, box_lent, parts_lent}
 use Rattle.au_memory.specs.Forests.{watching, empty, ready, shut, watched, IsHere, IsPart, IsRooted, IsLent, IsFull}
 use Rattle.au_memory.specs.Forests.{IsPartLent, IsWatched, IsWhole, IsNameRow, LendsAll, NameStands, Shuts, in_held}
@@ -154,7 +154,8 @@ module _ (types : Types) (s q : Table) (f e : Forest) (m n : Memory (List ℕ)) 
         subst (λ p. held_at n p ≡ Some (made tag born after.others)) (sym r.2) after.there,
         λ j t less at2. part_moves k l.token (g + j) (part_at j to) t stay (r.10 j t less at2),
       )
-  root_goes k l watching stay same parted shows others r = (r.0, r.1, r.2, has_grows types s q grows r.1 l.type r.3)
+  root_goes k l watching stay same parted shows others r =
+      (r.0, r.1, r.2, has_grows types s q grows r.1 l.type r.3, (r.4.0, grows.row r.0 r.4.0 r.4.1, r.4.2))
 
   -- the same where the place stands as it did
   pub root_moves : (k : ℕ) (l : Loan) (h : Held) → Stays k → (1 ≤ in_held (cell_of l.to) h → held_at n l.to ≡ held_at m l.to)

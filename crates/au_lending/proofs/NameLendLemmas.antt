@@ -1,16 +1,13 @@
 -- A name is lent to write.
-use Rattle.std.proofs.Common.{◌≡◌, ◌⊎◌, inl, inr, ℕ, ◌≤◌, Bool, true, false, List, [], refl, sym, ap, subst, ◌∙◌}
+use Rattle.std.proofs.Common.{inl, ℕ, Bool, List, [], refl, sym, subst}
 use Rattle.au_effects.specs.References.{name_along}
-use Rattle.au_effects.specs.Values.{Place, name_of}
 use Rattle.au_places.specs.Memories.{Memory}
-use Rattle.au_places.specs.Places.{same_base}
 use Rattle.au_types.specs.Types.{Meaning}
-use Rattle.au_memory.specs.Trees.{a_writer}
-use Rattle.au_memory.specs.Loans.{Types, Loan, Table, Via, named, lent_of, lent_through, IsLoan}
-use Rattle.au_memory.specs.Forests.{Holds, Made, Core, whole, ready, IsFull, IsNameRow, IsWhole, NameStands}
-use Rattle.au_lending.specs.Laws.{Lent, NamesLend}
+use Rattle.au_memory.specs.Loans.{Types, Table, lent_of, IsLoan}
+use Rattle.au_memory.specs.Forests.{Holds, Made, Core, IsFull, NameStands}
+use Rattle.au_lending.specs.Laws.{NamesLend}
 use Rattle.au_lending.proofs.LendLemmas.{lent_all}
-use Rattle.au_lending.proofs.RowLemmas.{find, no_loan, one_root}
+use Rattle.au_lending.proofs.RowLemmas.{find, one_root}
 
 module _ (types : Types) (clock : ℕ) (scope act : ℕ → Bool) (hold : Holds) (type : ℕ → ℕ → Meaning)
     (under : Made) (s : Table) (m : Memory (List ℕ)) (core : Core types clock scope act hold type under s m)

@@ -1,6 +1,6 @@
 -- A part of what a loan holds is lent to write: its tree goes over to a new loan, and the loan's own reference is gone.
-use Rattle.std.proofs.Common.{◌≡◌, ◌⊎◌, inl, inr, ℕ, suc, ◌+◌, ◌≤◌, ◌<◌, ◌==◌, Bool, true, false, List, [], ◌∷◌}
-use Rattle.std.proofs.Common.{refl, sym, ap, subst, ◌∙◌, arith, if◌then◌else◌}
+use Rattle.std.proofs.Common.{◌≡◌, ◌⊎◌, inl, inr, ℕ, suc, ◌+◌, ◌≤◌, ◌<◌, ◌==◌, Bool, true, false, List, ◌∷◌}
+use Rattle.std.proofs.Common.{refl, sym, ap, subst, ◌∙◌, arith}
 use Rattle.std.specs.Prelude.{Option, Some, None}
 use Rattle.std.proofs.lemmas.Bool.{cases_eq, cases_lt, eqb-true, ne_eqb}
 use Rattle.au_effects.specs.Values.{Place, reference}
@@ -10,11 +10,11 @@ use Rattle.au_running_types.specs.Running.{token}
 use Rattle.au_types.specs.Types as meaning
 use Rattle.au_types.specs.Types.{Meaning}
 use Rattle.au_memory.specs.Trees.{Value, Tree, a_writer, in_tree, in_writer}
-use Rattle.au_memory.specs.Loans.{Types, Loan, Table, Grows, Via, part_of, IsLoan, IsWriter, parent_of}
+use Rattle.au_memory.specs.Loans.{Types, Loan, Table, Grows, part_of, IsLoan, IsWriter, parent_of}
 use Rattle.au_memory.specs.Shown.{Shows, Has}
-use Rattle.au_memory.specs.Forests.{Held, Forest, Hold, Holds, Made, Core, AreShown, whole, all_lent, watching}
+use Rattle.au_memory.specs.Forests.{Held, Forest, Holds, Made, Core, AreShown, whole, all_lent, watching}
 use Rattle.au_memory.specs.Forests.{with_root, in_root, in_forest, in_list, in_held}
-use Rattle.au_memory.specs.Forests.{IsFull, IsHere, IsLent, IsNameRow, IsPartLent, IsRooted, IsWhole, NameStands}
+use Rattle.au_memory.specs.Forests.{IsFull, IsHere, IsLent, IsNameRow, IsPartLent, IsRooted, NameStands}
 use Rattle.au_memory.proofs.GrowthLemmas.{has_grows, shows_grows}
 use Rattle.au_memory.proofs.TotalLemmas.{root_other, root_self, total_out, total_put}
 use Rattle.au_memory.proofs.UsableLemmas.{root_below, writer_is_loan}
@@ -22,7 +22,7 @@ use Rattle.au_lending.specs.Holding.{with_row}
 use Rattle.au_lending.specs.Laws.{part_row}
 use Rattle.au_lending.proofs.FillLemmas.{row_grows, row_other, row_self, shown_grows}
 use Rattle.au_lending.proofs.LendLemmas.{unlent}
-use Rattle.au_lending.proofs.MoveLemmas.{Keeps, lent_moves, name_moves, parent_loan, root_moves, shuts_loan}
+use Rattle.au_lending.proofs.MoveLemmas.{Keeps, lent_moves, name_moves, root_moves}
 use Rattle.au_lending.proofs.RowLemmas.{no_loan, row_of, watched_full}
 
 module _ (types : Types) (clock : ℕ) (scope act : ℕ → Bool) (hold : Holds) (type : ℕ → ℕ → Meaning)

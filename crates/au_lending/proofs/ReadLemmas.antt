@@ -4,17 +4,16 @@ use Rattle.std.proofs.Common.{refl, sym, ap, subst, ◌∙◌, arith, if◌then�
 use Rattle.std.specs.Prelude.{Option, Some, None}
 use Rattle.std.proofs.lemmas.Bool.{cases_eq, cases_lt}
 use Rattle.au_effects.specs.References.{name_along}
-use Rattle.au_effects.specs.Values.{Place, name_of, reference}
-use Rattle.au_places.specs.Memories.{Memory, held_at}
+use Rattle.au_effects.specs.Values.{name_of, reference}
+use Rattle.au_places.specs.Memories.{Memory}
 use Rattle.au_places.specs.Places.{Id, writer, same_base}
 use Rattle.au_places.proofs.PlaceLemmas.{self_base}
 use Rattle.au_running_types.specs.Running.{token}
 use Rattle.au_types.specs.Types as meaning
 use Rattle.au_types.specs.Types.{Meaning}
-use Rattle.au_memory.specs.Trees.{Value, Tree, a_reader}
-use Rattle.au_memory.specs.Loans.{Types, Loan, Table, Grows, Via, reading, IsLoan, LeadsTo, Point, parent_of, start_of}
-use Rattle.au_memory.specs.Shown.{Shows, Has}
-use Rattle.au_memory.specs.Forests.{Held, Forest, Hold, Holds, Made, Names, Core, whole, all_lent, watching, empty}
+use Rattle.au_memory.specs.Trees.{a_reader}
+use Rattle.au_memory.specs.Loans.{Types, Loan, Table, Grows, reading, IsLoan, LeadsTo, parent_of, start_of}
+use Rattle.au_memory.specs.Forests.{Held, Forest, Hold, Holds, Made, Core, whole, all_lent, watching, empty}
 use Rattle.au_memory.specs.Forests.{ready, shut, watched, with_root, in_root, in_forest, in_list, IsFull, IsHere}
 use Rattle.au_memory.specs.Forests.{IsLent, IsNameRow, IsPartLent, IsRooted, IsWatched, IsWhole, NameStands}
 use Rattle.au_memory.proofs.GrowthLemmas.{has_grows}
@@ -151,7 +150,13 @@ module _ (types : Types) (clock : ℕ) (scope act : ℕ → Bool) (hold : Holds)
   new_root = (
     loan,
     row_self core.top loan s,
-    (k, found.tree, refl, has_grows types s table grows found.tree (type frame x) found.typed),
+    (
+      k,
+      found.tree,
+      refl,
+      has_grows types s table grows found.tree (type frame x) found.typed,
+      (own_row.row, grows.row k own_row.row own_row.has, own_row.at),
+    ),
   )
 
   rooted : (j : ℕ) (h : Held) → forest j ≡ Some h → (l : Loan) × (table j ≡ Some l) × IsRooted types table forest m j l h

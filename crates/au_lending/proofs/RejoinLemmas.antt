@@ -1,9 +1,9 @@
 -- A part that was lent goes back to the loan of which it is a part.
 use Rattle.std.proofs.Common.{◌≡◌, ◌⊎◌, inl, inr, ℕ, zero, suc, ◌+◌, ◌≤◌, ◌<◌, Bool, true, false, List, [], ◌∷◌}
 use Rattle.std.proofs.Common.{refl, sym, ap, subst, ◌∙◌, arith}
-use Rattle.std.specs.Prelude.{Option, Some, None, drop, is_some, length, slice_get}
+use Rattle.std.specs.Prelude.{Option, Some, None, drop, length, slice_get}
 use Rattle.std.proofs.lemmas.Bool.{cases_eq, cases_lt}
-use Rattle.au_effects.specs.Parts.{field, nth_field}
+use Rattle.au_effects.specs.Parts.{nth_field}
 use Rattle.au_effects.specs.Values.{Fields, Place, box, content_of, field_then, made, no_fields}
 use Rattle.au_places.specs.Memories.{Memory, held_at, later}
 use Rattle.au_places.proofs.MemoryLemmas.{all_held}
@@ -13,7 +13,7 @@ use Rattle.au_types.specs.Types.{Meaning}
 use Rattle.au_memory.specs.Trees.{Value, Tree, Trees, a_box, a_made, a_writer, tree_then, in_birth, in_tree, in_trees}
 use Rattle.au_memory.specs.Loans.{Types, Loan, Table, Via, named, lent_of, lent_through, part_of, reading, IsLoan}
 use Rattle.au_memory.specs.Loans.{parent_of}
-use Rattle.au_memory.specs.Shown.{Shows, ShowsAll, Has, HasAll}
+use Rattle.au_memory.specs.Shown.{ShowsAll, Has, HasAll}
 use Rattle.au_memory.specs.Forests.{empty, ready, shut, watched, Hold}
 use Rattle.au_memory.specs.Forests.{Held, Forest, Holds, Made, Core, whole, all_lent, box_lent, parts_lent, watching}
 use Rattle.au_memory.specs.Forests.{with_root, in_root, in_forest, in_list, in_held}

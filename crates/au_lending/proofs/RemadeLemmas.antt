@@ -1,10 +1,10 @@
 -- Values under way are made anew, with memory that no root has: boxes are made and opened.
-use Rattle.std.proofs.Common.{◌≡◌, ◌⊎◌, inl, inr, ℕ, suc, ◌+◌, ◌≤◌, ◌<◌, ◌==◌, Bool, true, false, List, [], ◌∷◌}
+use Rattle.std.proofs.Common.{◌≡◌, ℕ, ◌+◌, ◌≤◌, ◌==◌, Bool, true, false, List, [], ◌∷◌}
 use Rattle.std.proofs.Common.{refl, sym, ap, subst, ◌∙◌, arith, if◌then◌else◌}
 use Rattle.std.specs.Prelude.{Option, Some, None}
-use Rattle.std.proofs.lemmas.Bool.{cases_lt, eqb-true}
+use Rattle.std.proofs.lemmas.Bool.{eqb-true}
 use Rattle.au_effects.specs.Parts.{along, part}
-use Rattle.au_effects.specs.Values.{Base, Fields, Place, unit, truth, number, text, made, reference, box, buffer}
+use Rattle.au_effects.specs.Values.{Fields, Place, unit, truth, number, text, made, reference, box, buffer}
 use Rattle.au_effects.specs.Values.{terminal, root, name_of, content_of}
 use Rattle.au_places.specs.Memories.{Memory, held_at, later, with_base}
 use Rattle.au_places.specs.Places.{Id, birth, cell, writer, cell_of, covers, in_node, in_place, one_if, same_base}
@@ -15,11 +15,11 @@ use Rattle.au_types.specs.Types as meaning
 use Rattle.au_types.specs.Types.{Arguments, Meaning}
 use Rattle.au_types.specs.declared.types.DeclAt.{DeclAt}
 use Rattle.au_memory.specs.Trees.{Value, Tree, Trees, a_plain, a_made, a_box, a_buffer, a_terminal, a_root, a_writer}
-use Rattle.au_memory.specs.Trees.{a_reader, in_birth, in_tree, in_trees}
+use Rattle.au_memory.specs.Trees.{a_reader, in_birth, in_tree}
 use Rattle.au_memory.specs.Loans.{Types, Loan, Table}
 use Rattle.au_memory.specs.Shown.{Shows, ShowsAll, Has, IsPlain, IsDeclared, AreDeclared}
 use Rattle.au_memory.specs.Forests.{Held, Holds, Made, Core, AreShown, whole, all_lent, box_lent, parts_lent, watching}
-use Rattle.au_memory.specs.Forests.{in_root, in_forest, in_list, in_held, IsRooted, NameStands}
+use Rattle.au_memory.specs.Forests.{in_root, in_forest, in_list, in_held, IsRooted}
 use Rattle.au_memory.proofs.CountLemmas.{any_path, none_left}
 use Rattle.au_memory.proofs.FrameLemmas.{shows_all_base, shows_base}
 use Rattle.au_memory.proofs.FreeLemmas.{no_content}
@@ -92,7 +92,7 @@ module _ (types : Types) (clock : ℕ) (scope act : ℕ → Bool) (hold : Holds)
     abbrev after : Memory (List ℕ)
     after = with_base (content_of i) o m
 
-    in_any : (k : ℕ) (h : Held) (p : List ℕ) → core.forest k ≡ Some h → in_held (cell (content_of i) p) h ≡ 0
+    pub in_any : (k : ℕ) (h : Held) (p : List ℕ) → core.forest k ≡ Some h → in_held (cell (content_of i) p) h ≡ 0
     in_any k h p e =
         let has = total_has (cell (content_of i) p) core.top k core.forest
         (root_below types clock scope act hold type under s m core k h e) in
@@ -100,7 +100,7 @@ module _ (types : Types) (clock : ℕ) (scope act : ℕ → Bool) (hold : Holds)
         let none = free p in
         omega arith
 
-    other_place : (k : ℕ) (h : Held) (count : ℕ) (to : Place) → core.forest k ≡ Some h → node_of h ≡ Some (count, to)
+    pub other_place : (k : ℕ) (h : Held) (count : ℕ) (to : Place) → core.forest k ≡ Some h → node_of h ≡ Some (count, to)
         → held_at after to ≡ held_at m to
     other_place k h count to e at = by (same_base (content_of i) to.base) refl
       where
@@ -113,7 +113,7 @@ module _ (types : Types) (clock : ℕ) (scope act : ℕ → Bool) (hold : Holds)
             absurd (omega arith)
         by false eq = ap (λ v. along v (part to.path)) (base_other m (content_of i) to.base o eq)
 
-    pub content_remade : AreShown types s after now trees
+    unfoldable pub content_remade : AreShown types s after now trees
         → ((id : Id) → in_forest id core.top core.forest + in_list id trees ≤ 1)
         → ((k : ℕ) → in_list (writer k) trees ≤ in_list (writer k) core.trees)
         → Core types clock scope act hold type now s after
@@ -233,7 +233,13 @@ module _ (types : Types) (forms : AreDeclared types) (boxes : BoxesAreAlone type
       let once = core.once (cell (content_of form.born) []) in
       omega arith
 
+  unboxed_counts : (id : Id) → (in_forest id core.top core.forest + in_list id (form.content ∷ first.1))
+      + (in_birth id (Some form.born) + in_place id (content_place form.born))
+      ≡ in_forest id core.top core.forest + in_list id core.trees
+  unboxed_counts id = let all = lists id in omega arith
+
   pub unboxed : Unboxed types clock scope act hold type v t of under s m core
+  unfolding content_remade remade
   unboxed = record {
     born = form.born;
     value = shown.0;
@@ -247,6 +253,7 @@ module _ (types : Types) (forms : AreDeclared types) (boxes : BoxesAreAlone type
         )
         (λ id. let all = lists id in let once = core.once id in omega arith)
         (λ k. let all = lists (writer k) in omega arith);
+    counts = λ id. unboxed_counts id;
   }
 
 -- ---- boxes are made
@@ -351,7 +358,13 @@ module _ (types : Types) (clock : ℕ) (scope act : ℕ → Bool) (hold : Holds)
           let old = core.once (cell base p) in
           omega arith
 
+  boxed_counts : (id : Id) → in_forest id core.top core.forest + in_list id (a_box i given.0 ∷ given.1)
+      ≡ (in_forest id core.top core.forest + in_list id core.trees)
+      + (in_birth id (Some i) + in_place id (content_place i))
+  boxed_counts id = let all = made_lists id in omega arith
+
   pub boxed : Boxed types clock scope act hold type v of under s m core t i
+  unfolding content_remade remade
   boxed = record {
     after = content_remade types clock scope act hold type ((v, of) ∷ under) s m core i (Some v)
         ((box i, t) ∷ under) (a_box i given.0 ∷ given.1) (λ p. (unused p).0) (
@@ -366,4 +379,5 @@ module _ (types : Types) (clock : ℕ) (scope act : ℕ → Bool) (hold : Holds)
         )
         once
         (λ k. let all = made_lists (writer k) in omega arith);
+    counts = λ id. boxed_counts id;
   }

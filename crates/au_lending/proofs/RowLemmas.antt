@@ -1,20 +1,20 @@
 -- The rows of names, and of loans.
-use Rattle.std.proofs.Common.{◌≡◌, ◌⊎◌, inl, inr, ℕ, ◌+◌, ◌≤◌, ◌<◌, ◌==◌, Bool, true, false, ◌&&◌, List, [], ◌∷◌}
+use Rattle.std.proofs.Common.{◌≡◌, ℕ, ◌==◌, Bool, true, false, List, []}
 use Rattle.std.proofs.Common.{refl, sym, ap, subst, ◌∙◌, arith, if◌then◌else◌}
-use Rattle.std.specs.Prelude.{Option, Some, None}
-use Rattle.std.proofs.lemmas.Bool.{and_parts, cases_lt, eqb-true}
+use Rattle.std.specs.Prelude.{Some}
+use Rattle.std.proofs.lemmas.Bool.{and_parts, eqb-true}
 use Rattle.au_effects.specs.References.{name_along}
-use Rattle.au_effects.specs.Values.{Base, Place, name_of}
+use Rattle.au_effects.specs.Values.{Place, name_of}
 use Rattle.au_places.specs.Memories.{Memory, held_at}
 use Rattle.au_places.specs.Places.{cell_of, covers, in_place, same_base}
 use Rattle.au_places.proofs.MemoryLemmas.{all_held}
 use Rattle.au_places.proofs.PlaceLemmas.{self_base}
 use Rattle.au_types.specs.Types.{Meaning}
 use Rattle.au_memory.specs.Trees.{Value, Tree}
-use Rattle.au_memory.specs.Loans.{Types, Loan, Table, Via, named, IsLoan}
+use Rattle.au_memory.specs.Loans.{Types, Loan, Table, IsLoan}
 use Rattle.au_memory.specs.Shown.{Shows, Has}
-use Rattle.au_memory.specs.Forests.{Held, Forest, Hold, Holds, Made, Names, Core, whole, empty, ready, shut, watched}
-use Rattle.au_memory.specs.Forests.{IsFull, IsHere, IsNameRow, IsWatched, IsWhole, NameStands}
+use Rattle.au_memory.specs.Forests.{Hold, Holds, Made, Core, whole, empty, ready, shut, watched}
+use Rattle.au_memory.specs.Forests.{IsFull, IsNameRow, IsWatched, IsWhole, NameStands}
 use Rattle.au_memory.proofs.CountLemmas.{none_left}
 
 -- ---- names

@@ -1,24 +1,24 @@
 -- What stands behind a write reference gives way to another value.
-use Rattle.std.proofs.Common.{◌≡◌, ◌⊎◌, inl, inr, ℕ, suc, ◌+◌, ◌≤◌, ◌<◌, Bool, true, false, List, [], ◌∷◌}
-use Rattle.std.proofs.Common.{refl, sym, ap, subst, ◌∙◌, arith, if◌then◌else◌}
+use Rattle.std.proofs.Common.{◌≡◌, ◌⊎◌, inl, inr, ℕ, ◌+◌, ◌<◌, Bool, true, false, List, [], ◌∷◌}
+use Rattle.std.proofs.Common.{refl, sym, ap, subst, ◌∙◌, arith}
 use Rattle.std.specs.Prelude.{Option, Some, None, option_map}
 use Rattle.std.proofs.lemmas.Bool.{cases_eq}
 use Rattle.au_effects.specs.Parts.{along, part, with_part}
-use Rattle.au_effects.specs.Values.{Base, Fields, Place, made, name_of, reference}
-use Rattle.au_places.specs.Memories.{Memory, held_at, written}
-use Rattle.au_places.specs.Places.{Id, writer, cell_of, in_node, in_place, same_base}
+use Rattle.au_effects.specs.Values.{Place, name_of, reference}
+use Rattle.au_places.specs.Memories.{Memory, written}
+use Rattle.au_places.specs.Places.{Id, writer, cell_of, in_place, same_base}
 use Rattle.au_places.proofs.MemoryLemmas.{base_other, write_above, write_apart, write_stands}
 use Rattle.au_places.proofs.PlaceLemmas.{base_is, node_self}
 use Rattle.au_running_types.specs.Running.{token}
 use Rattle.au_types.specs.Types as meaning
 use Rattle.au_types.specs.Types.{Meaning}
-use Rattle.au_memory.specs.Trees.{Value, Tree, a_writer, in_tree, in_writer}
-use Rattle.au_memory.specs.Loans.{Types, Loan, Table, IsLoan, IsWriter}
+use Rattle.au_memory.specs.Trees.{Value, Tree, in_tree, in_writer}
+use Rattle.au_memory.specs.Loans.{Types, Loan, Table, IsLoan}
 use Rattle.au_memory.specs.Shown.{Shows, Has, AreDeclared}
-use Rattle.au_memory.specs.Forests.{Held, Forest, Hold, Holds, Made, Names, Core, AreShown, whole, all_lent, box_lent}
-use Rattle.au_memory.specs.Forests.{parts_lent, watching, empty, ready, shut, watched, with_root, in_root, in_forest}
-use Rattle.au_memory.specs.Forests.{in_list, in_held, IsFull, IsHere, IsLent, IsNameRow, IsPartLent, IsRooted, IsWatched}
-use Rattle.au_memory.specs.Forests.{IsWhole, NameStands, Usable}
+use Rattle.au_memory.specs.Forests.{Held, Forest, Holds, Made, Core, AreShown, whole, all_lent, box_lent}
+use Rattle.au_memory.specs.Forests.{parts_lent, watching, with_root, in_root, in_forest}
+use Rattle.au_memory.specs.Forests.{in_list, in_held, IsFull, IsHere, IsNameRow, IsPartLent, IsRooted}
+use Rattle.au_memory.specs.Forests.{NameStands, Usable}
 use Rattle.au_memory.proofs.CountLemmas.{writer_in}
 use Rattle.au_memory.proofs.FormLemmas.{IsWriterOf, writer_form}
 use Rattle.au_memory.proofs.FrameLemmas.{shows_all_written, shows_written}
@@ -33,7 +33,7 @@ use Rattle.au_lending.proofs.MoveLemmas.{part_stays}
 use Rattle.au_lending.proofs.RowLemmas.{no_loan, row_of, watched_full}
 
 -- values under way in which a place doesn't count
-shown_written : (types : Types) (s : Table) (m : Memory (List ℕ)) (to : Place) (new : Value) (vs : Made) (ts : List Tree)
+pub shown_written : (types : Types) (s : Table) (m : Memory (List ℕ)) (to : Place) (new : Value) (vs : Made) (ts : List Tree)
     → in_list (cell_of to) ts ≡ 0 → AreShown types s m vs ts → AreShown types s (written to new m) vs ts
 shown_written types s m to new [] [] none h = h
 shown_written types s m to new [] (t ∷ ts) none h = h

@@ -1,5 +1,5 @@
 -- Values under way that come and go, and rest on nothing.
-use Rattle.std.proofs.Common.{◌≡◌, ℕ, ◌+◌, ◌≤◌, Bool, List, [], ◌∷◌, refl, sym, ap, subst, ◌∙◌, arith}
+use Rattle.std.proofs.Common.{◌≡◌, ℕ, ◌+◌, ◌≤◌, Bool, List, ◌∷◌, ap, arith}
 use Rattle.au_places.specs.Memories.{Memory}
 use Rattle.au_places.specs.Places.{Id, writer}
 use Rattle.au_types.specs.Types.{Meaning}

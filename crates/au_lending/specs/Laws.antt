@@ -11,7 +11,7 @@ use Rattle.au_memory.specs.Forests.{in_forest, in_list}
 use Rattle.au_memory.specs.Forests.{IsHere, LendsAll}
 use Rattle.au_memory.specs.Loans.{Types, Loan, Table, Via, lent_of, lent_through, part_of, reading}
 use Rattle.au_memory.specs.Shown.{Shows, Has, AreDeclared, AreLawful}
-use Rattle.au_memory.specs.Trees.{Value, Tree, in_tree, in_writer}
+use Rattle.au_memory.specs.Trees.{Value, Tree, in_birth, in_tree, in_writer}
 use Rattle.au_lending.specs.Holding.{name_row, with_hold, with_name, with_row, with_token}
 
 module _ (types : Types) (clock : ℕ) (scope act : ℕ → Bool) (hold : Holds) (type : ℕ → ℕ → Meaning)
@@ -251,7 +251,8 @@ pub record BoxesAreAlone (types : Types) : Type 0 where
 module _ (types : Types) (clock : ℕ) (scope act : ℕ → Bool) (hold : Holds) (type : ℕ → ℕ → Meaning)
     (v : Value) (t of : Meaning) (under : Made) (s : Table) (m : Memory (List ℕ))
     (core : Core types clock scope act hold type ((v, t) ∷ under) s m) where
-  -- A box is opened: the newest value is one, and its content is under way in its place; the box is no more.
+  -- A box is opened: the newest value is one, and its content is under way in its place; the box is no
+  -- more, and everything counts as it did, but for its birth and for the place that was its content.
   pub record Unboxed : Type 0 where
     pub born : ℕ
     pub value : Value
@@ -259,6 +260,10 @@ module _ (types : Types) (clock : ℕ) (scope act : ℕ → Bool) (hold : Holds)
     pub there : m.at (content_of born) ≡ Some value
     pub after : Core types clock scope act hold type ((value, of) ∷ under) s
         (with_base (content_of born) None m)
+    pub counts : (id : Id)
+        → (in_forest id after.top after.forest + in_list id after.trees)
+        + (in_birth id (Some born) + in_place id (content_place born))
+        ≡ in_forest id core.top core.forest + in_list id core.trees
 
   abbrev pub BoxesOpen : Type 0
   BoxesOpen = AreDeclared types → BoxesAreAlone types → types.boxed t ≡ Some of → Unboxed
@@ -266,10 +271,15 @@ module _ (types : Types) (clock : ℕ) (scope act : ℕ → Bool) (hold : Holds)
 module _ (types : Types) (clock : ℕ) (scope act : ℕ → Bool) (hold : Holds) (type : ℕ → ℕ → Meaning)
     (v : Value) (of : Meaning) (under : Made) (s : Table) (m : Memory (List ℕ))
     (core : Core types clock scope act hold type ((v, of) ∷ under) s m) (t : Meaning) (i : ℕ) where
-  -- A box is made of the newest value, with this birth.
+  -- A box is made of the newest value, with this birth: everything counts as it did, but for that and for
+  -- the place that is its content.
   pub record Boxed : Type 0 where
     pub after : Core types clock scope act hold type ((box i, t) ∷ under) s
         (with_base (content_of i) (Some v) m)
+    pub counts : (id : Id)
+        → in_forest id after.top after.forest + in_list id after.trees
+        ≡ (in_forest id core.top core.forest + in_list id core.trees)
+        + (in_birth id (Some i) + in_place id (content_place i))
 
   -- So it may be where there is no such birth yet.
   abbrev pub BoxesAreMade : Type 0

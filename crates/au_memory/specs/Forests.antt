@@ -120,7 +120,8 @@ module _ (types : Types) (s : Table) (f : Forest) (m : Memory (List ℕ)) where
     pub is_open : IsHere (f g)
 
   -- A root with this number and this row is what its row says. What it holds whole is a tree of its type,
-  -- which stands at its place; what it has lent stands there too, and is of a loan that is open.
+  -- which stands at its place; what it has lent stands there too, and is of a loan that is open. A root of a
+  -- read borrow has the place of what it sees.
   abbrev pub IsRooted : ℕ → Loan → Held → Type 0
   IsRooted k l (whole to tree) =
       (v : Value) × (to ≡ l.to) × Has types s tree l.type × (held_at m to ≡ Some v) × Shows types s m v tree
@@ -136,7 +137,9 @@ module _ (types : Types) (s : Table) (f : Forest) (m : Memory (List ℕ)) where
       × (held_at m to ≡ Some (made tag born parts))
       × ((j : ℕ) (t : Meaning) → j < count → slice_get of j ≡ Some t
       → IsPart k l.token (g + j) (part_at j to) t)
-  IsRooted k l watching = (from : ℕ) × (tree : Tree) × (l.via ≡ reading from tree) × Has types s tree l.type
+  IsRooted k l watching =
+      (from : ℕ) × (tree : Tree) × (l.via ≡ reading from tree) × Has types s tree l.type
+      × ((n : Loan) × (s from ≡ Some n) × (n.to ≡ l.to))
 
 -- ---- what holds of each loan
 

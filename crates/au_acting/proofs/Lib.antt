@@ -1,0 +1,10 @@
+pub mod RowLemmas
+pub mod ReferLemmas
+pub mod NameLemmas
+pub mod BehindLemmas
+pub mod ReaderLemmas
+pub mod ItemLemmas
+pub mod ValueLemmas
+pub mod EndLemmas
+pub mod StartLemmas
+pub mod GrantLemmas

@@ -1,0 +1,7 @@
+pub mod Safe
+pub mod Naming
+pub mod Referring
+pub mod Valuing
+pub mod Ending
+pub mod Starting
+pub mod Granting

@@ -1,0 +1,4 @@
+pub mod Told
+pub mod Orders
+pub mod Invariants
+pub mod Laws
