@@ -1,0 +1,15 @@
+pub mod Told
+pub mod Ways
+pub mod Lists
+pub mod Single
+pub mod Types
+pub mod Atoms
+pub mod Expressions
+pub mod Rows
+pub mod Parts
+pub mod Conditionals
+pub mod Statements
+pub mod DeclarationParts
+pub mod Declarations
+pub mod Files
+pub mod Places

@@ -1,0 +1,346 @@
+-- Lists of parts keep what is told of reading.
+use Rattle.std.proofs.Common.{◌≡◌, ℕ, zero, suc, ◌+◌, ◌<◌, ◌≤◌, Bool, true, false, ◌&&◌, List, [], ◌∷◌, ◌++◌}
+use Rattle.std.proofs.Common.{length, map, drop, Option, Some, None, Ok, refl, sym, ap, ◌∙◌, subst, arith, inr, cond}
+use Rattle.std.proofs.Common.{append_assoc, length-append}
+use Rattle.std.specs.List.{flat_map, list_all}
+use Rattle.std.proofs.lemmas.Bool.{and_from}
+use Rattle.std.proofs.lemmas.List.{append-nil}
+use Rattle.au_base.specs.declared.tokens.Sign.{Sign as SignOf}
+use Rattle.au_base.specs.declared.tokens.Sign.TheVariants.{Comma}
+use Rattle.au_base.specs.declared.tokens.Token.{Token}
+use Rattle.au_base.specs.declared.tokens.What.{What}
+use Rattle.au_base.specs.declared.tokens.What.TheVariants.{Sign}
+use Rattle.au_syntax.specs.Words as words
+use Rattle.au_syntax.specs.Words.{Words, AreWords}
+use Rattle.au_syntax.specs.Forms.{some}
+use Rattle.au_read_expressions.specs.Reading.{Read, ◌>>=◌, no, front, is_front, same_what, tokens_at, read_of}
+use Rattle.au_read_expressions.specs.Reading.{behind_tokens, closed, closed_at, shaped, built_at, before_all, then_all}
+use Rattle.au_read_expressions.specs.Reading.{repeated_at, repeated, after_part, separated_at, separated, listed}
+use Rattle.au_read_expressions.specs.Reading.{bracketed, optional_of, optional}
+use Rattle.au_read_expressions.specs.Spelling.{fixed}
+use Rattle.au_read_expressions.proofs.Steps.{same_is}
+use Rattle.au_fault_places.proofs.Told.{Kind, Is, Example, Whole, Begun, Tells, Past, On, Alike, Honest}
+use Rattle.au_fault_places.proofs.Told.{are_join, are_size, behind_tells, built_tells, bind_tells, past_more}
+use Rattle.au_fault_places.proofs.Told.{tells_past}
+use Rattle.au_fault_places.proofs.Told.{bind_past, past_alike, bind_alike, built_alike}
+use Rattle.au_fault_places.proofs.Ways.{same_honest, none_honest, behind_kind, closed_kind, behind_honest}
+use Rattle.au_fault_places.proofs.Ways.{closed_honest}
+use Rattle.au_fault_places.proofs.Ways.{kind_honest, no_tells, Shapes, shaped_honest, test_honest}
+
+module _ {A : Type 0} (kind : Kind A) where
+  -- one after another
+  abbrev pub repeated_kind : Kind (List A)
+  repeated_kind = record { words = flat_map kind.words; good = list_all kind.good }
+
+  -- one or more with words between
+  abbrev pub separated_kind : Words → Kind (List A)
+  separated_kind between = record {
+    words = λ xs. words.separated between (map kind.words xs);
+    good = λ xs. some xs && list_all kind.good xs;
+  }
+
+  -- with commas between and signs round them
+  abbrev pub bracketed_kind : SignOf → SignOf → Kind (List A)
+  bracketed_kind left right = record {
+    words = λ xs. words.listed_in left right (map kind.words xs);
+    good = list_all kind.good;
+  }
+
+  -- a part that may stand behind a token
+  abbrev pub optional_words : What → Option A → Words
+  optional_words what None = []
+  optional_words what (Some x) = fixed (what ∷ []) ++ kind.words x
+
+  abbrev pub optional_good : Option A → Bool
+  optional_good None = true
+  optional_good (Some x) = kind.good x
+
+  abbrev pub optional_kind : What → Kind (Option A)
+  optional_kind what = record { words = optional_words what; good = optional_good }
+
+  is_none : Is repeated_kind [] []
+  is_none = record { words = tt; good = refl }
+
+  is_more : (x : A) (xs : List A) (us vs : List Token) → Is kind x us → Is repeated_kind xs vs →
+      Is repeated_kind (x ∷ xs) (us ++ vs)
+  is_more x xs us vs h k = record {
+    words = are_join (kind.words x) (flat_map kind.words xs) us vs h.words k.words;
+    good = and_from (kind.good x) (list_all kind.good xs) h.good k.good;
+  }
+
+  pub is_one : (between : What) (x : A) (us : List Token) → Is kind x us → Is
+      (separated_kind (fixed (between ∷ []))) (x ∷ []) us
+  is_one between x us h = record {
+    words = subst (λ ws. AreWords ws us) (sym (append-nil (kind.words x))) h.words;
+    good = and_from (kind.good x) true h.good refl;
+  }
+
+  pub is_next : (between : What) (x : A) (xs : List A) (us : List Token) (t : Token) (vs : List Token) → Is kind x us →
+      t.what ≡ between → Is (separated_kind (fixed (between ∷ []))) xs vs
+      → Is (separated_kind (fixed (between ∷ []))) (x ∷ xs) ((us ++ t ∷ []) ++ vs)
+  is_next between x [] us t vs h e k = absurd (let wrong = k.good in cc)
+  is_next between x (y ∷ ys) us t vs h e k = record {
+    words = subst (AreWords (words.separated (fixed (between ∷ [])) (map kind.words (x ∷ y ∷ ys))))
+        (sym (append_assoc us (t ∷ []) vs))
+        (are_join (kind.words x) (flat_map (λ one. fixed (between ∷ []) ++ one) (map kind.words (y ∷ ys))) us (t ∷ vs)
+        h.words ((e, tt), k.words));
+    good = and_from (kind.good x) (list_all kind.good (y ∷ ys)) h.good k.good;
+  }
+
+module _ {A : Type 0} (kind : Kind A) (read : List Token → Read A) (honest : Honest kind read) where
+  left_behind : (x : A) (ts behind : List Token) → read ts ≡ Ok (x, behind) → Whole kind x ts behind
+  left_behind x ts behind e = subst (Tells kind ts) e (honest.tells ts)
+
+  pub not_longer : (x : A) (ts behind : List Token) → read ts ≡ Ok (x, behind) → length behind ≤ length ts
+  not_longer x ts behind e =
+      let w = left_behind x ts behind e in
+      let l = ap length w.same ∙ length-append w.front behind in
+      let r : length behind ≤ length ts = omega (arith, l) in r
+
+  pub shorter : ((x : A) → kind.good x ≡ true → 0 < length (kind.words x)) → (x : A) (ts behind : List Token) →
+      read ts ≡ Ok (x, behind) → length behind < length ts
+  shorter some_words x ts behind e =
+      let w = left_behind x ts behind e in
+      let l = ap length w.same ∙ length-append w.front behind in
+      let n = are_size (kind.words x) w.front w.is.words in
+      let r : length behind < length ts = omega (arith, l, n, some_words x w.is.good) in r
+
+  -- ---- one after another
+
+  module _ (begins : Option What → Bool) (some_words : (x : A) → kind.good x ≡ true → 0 < length (kind.words x)) where
+    none_read : (ts : List Token) → Tells (repeated_kind kind) ts (read_of [] ts)
+    none_read ts = record { front = []; same = refl; is = is_none kind }
+
+    repeated_by : (k : ℕ) (ts : List Token) (v : Bool)
+        → Tells (repeated_kind kind) ts (read ts >>= then_all (repeated_at begins read k))
+        → Tells (repeated_kind kind) ts (cond v (read ts >>= then_all (repeated_at begins read k)) (read_of [] ts))
+    repeated_by k ts true h = h
+    repeated_by k ts false h = none_read ts
+
+    repeated_tells : (k : ℕ) (ts : List Token) → Tells (repeated_kind kind) ts (repeated_at begins read k ts)
+    repeated_tells zero ts = none_read ts
+    repeated_tells (suc k) ts =
+        repeated_by k ts (begins (front ts)) (
+        bind_tells kind (repeated_kind kind) ts (then_all (repeated_at begins read k))
+        (λ x front rest same is. built_tells (repeated_kind kind) (repeated_kind kind) front ts rest same (λ xs. x ∷ xs)
+        (λ xs us h. is_more kind x xs front us is h) (repeated_at begins read k rest) (repeated_tells k rest))
+        (λ x us is. record { rest = []; tree = x ∷ []; is = is_more kind x [] us [] is (is_none kind) })
+        (read ts) (honest.tells ts))
+
+    repeated_past : (k : ℕ) (ts : List Token) → Past (length ts) (repeated_at begins read k ts)
+    repeated_past k ts = tells_past (repeated_kind kind) ts (repeated_at begins read k ts) (repeated_tells k ts)
+
+    then_past : (k : ℕ) (x : A × List Token) → Past (length x.1) (then_all (repeated_at begins read k) x)
+    then_past k x = bind_past (length x.1) (before_all x.0) (λ y. omega arith) (repeated_at begins read k x.1)
+        (repeated_past k x.1)
+
+    repeated_test : (k j : ℕ) (t : Token) (p b c : List Token) (v : Bool)
+        → Alike b c (read (t ∷ p ++ b) >>= then_all (repeated_at begins read k))
+        (read (t ∷ p ++ c) >>= then_all (repeated_at begins read j))
+        → Alike b c (cond v (read (t ∷ p ++ b) >>= then_all (repeated_at begins read k)) (read_of [] (t ∷ p ++ b)))
+        (cond v (read (t ∷ p ++ c) >>= then_all (repeated_at begins read j)) (read_of [] (t ∷ p ++ c)))
+    repeated_test k j t p b c true h = h
+    repeated_test k j t p b c false h = inr (record { between = t ∷ p; same = refl; there = refl })
+
+    repeated_alike : (k j : ℕ) (p b c : List Token) → length (p ++ b) ≤ k → length (p ++ c) ≤ j →
+        Alike b c (repeated_at begins read k (p ++ b)) (repeated_at begins read j (p ++ c))
+    repeated_alike k j [] b c h i = past_alike b c (repeated_at begins read j c) (repeated_at begins read k b)
+        (repeated_past k b)
+    repeated_alike zero j (t ∷ p) b c h i = absurd (let wrong : ⊥ = omega (arith, h) in wrong)
+    repeated_alike (suc k) zero (t ∷ p) b c h i = absurd (let wrong : ⊥ = omega (arith, i) in wrong)
+    repeated_alike (suc k) (suc j) (t ∷ p) b c h i =
+        repeated_test k j t p b c (begins (Some t.what)) (
+        bind_alike b c (read (t ∷ p ++ c)) (then_all (repeated_at begins read k)) (then_all (repeated_at begins read j))
+        (then_past k) (read (t ∷ p ++ b))
+        (λ x q e.
+        let d = shorter some_words x (t ∷ p ++ b) (q ++ b) e in
+        let qb = length-append q b in let pb = length-append p b in
+        let qc = length-append q c in let pc = length-append p c in
+        built_alike b c (λ xs. x ∷ xs) (repeated_at begins read k (q ++ b)) (repeated_at begins read j (q ++ c))
+        (repeated_alike k j q b c (omega (arith, h, d)) (omega (arith, i, d, qb, pb, qc, pc))))
+        (honest.alike (t ∷ p) b c))
+
+    pub repeated_honest : Honest (repeated_kind kind) (repeated begins read)
+    repeated_honest = record {
+      example = record { tree = []; tokens = []; is = is_none kind };
+      tells = λ ts. repeated_tells (length ts) ts;
+      alike = λ p b c. repeated_alike (length (p ++ b)) (length (p ++ c)) p b c (omega arith) (omega arith);
+    }
+
+  -- ---- with a token between
+
+  module _ (between : What) where
+    abbrev sep : Kind (List A)
+    sep = separated_kind kind (fixed (between ∷ []))
+
+    abbrev others : ℕ → List Token → Read (List A)
+    others k = separated_at between read k
+
+    some_sep : Example sep
+    some_sep = record {
+      tree = honest.example.tree ∷ [];
+      tokens = honest.example.tokens;
+      is = is_one kind between honest.example.tree honest.example.tokens honest.example.is;
+    }
+
+    after_by : (k : ℕ) (x : A) (ts front : List Token) (t : Token) (rest : List Token) → ts ≡ front ++ t ∷
+        rest → Is kind x front →
+        (v : Bool) → (v ≡ true → Tells sep ts (others k rest >>= before_all x))
+        → Tells sep ts (cond v (others k rest >>= before_all x) (read_of (x ∷ []) (t ∷ rest)))
+    after_by k x ts front t rest same is true on = on refl
+    after_by k x ts front t rest same is false on = record
+        { front = front; same = same; is = is_one kind between x front is }
+
+    after_tells : (k : ℕ) → ((us : List Token) → Tells sep us (others k us)) → (x : A) (ts front rest : List Token) →
+        ts ≡ front ++ rest → Is kind x front → Tells sep ts (after_part between (others k) (x, rest))
+    after_tells k more x ts front [] same is = record
+        { front = front; same = same; is = is_one kind between x front is }
+    after_tells k more x ts front (t ∷ rest) same is =
+        after_by k x ts front t rest same is (same_what t.what between) (λ e.
+        built_tells sep sep (front ++ t ∷ []) ts rest (same ∙ sym (append_assoc front (t ∷ []) rest)) (λ xs. x ∷ xs)
+        (λ xs us h. is_next kind between x xs front t us is (same_is t.what between e) h) (others k rest) (more rest))
+
+    separated_tells : (k : ℕ) (ts : List Token) → Tells sep ts (others k ts)
+    separated_tells zero ts = no_tells sep some_sep ts
+    separated_tells (suc k) ts =
+        bind_tells kind sep ts (after_part between (others k))
+        (λ x front rest same is. after_tells k (separated_tells k) x ts front rest same is)
+        (λ x us is. record {
+          rest = [];
+          tree = x ∷ [];
+          is = subst (Is sep (x ∷ [])) (sym (append-nil us))
+              (is_one kind between x us is);
+        })
+        (read ts) (honest.tells ts)
+
+    separated_past : (k : ℕ) (ts : List Token) → Past (length ts) (others k ts)
+    separated_past k ts = tells_past sep ts (others k ts) (separated_tells k ts)
+
+    after_past_by : (k : ℕ) (x : A) (t : Token) (rest : List Token) (v : Bool)
+        → Past (suc (length rest)) (cond v (others k rest >>= before_all x) (read_of (x ∷ []) (t ∷ rest)))
+    after_past_by k x t rest true =
+        past_more (length rest) (suc (length rest)) (others k rest >>= before_all x) (omega arith)
+        (bind_past (length rest) (before_all x) (λ y. omega arith) (others k rest) (separated_past k rest))
+    after_past_by k x t rest false = omega arith
+
+    after_past_of : (k : ℕ) (x : A) (rest : List Token) → Past (length rest) (after_part between (others k) (x, rest))
+    after_past_of k x [] = omega arith
+    after_past_of k x (t ∷ rest) = after_past_by k x t rest (same_what t.what between)
+
+    pub after_past : (k : ℕ) (x : A × List Token) → Past (length x.1) (after_part between (others k) x)
+    after_past k x = after_past_of k x.0 x.1
+
+    after_alike_by : (k j : ℕ) (x : A) (t : Token) (q b c : List Token) → Alike b c (others k (q ++ b))
+        (others j (q ++ c))
+        → (v : Bool) → Alike b c (cond v (others k (q ++ b) >>= before_all x) (read_of (x ∷ []) (t ∷ q ++ b)))
+        (cond v (others j (q ++ c) >>= before_all x) (read_of (x ∷ []) (t ∷ q ++ c)))
+    after_alike_by k j x t q b c on true = built_alike b c (λ xs. x ∷ xs) (others k (q ++ b)) (others j (q ++ c)) on
+    after_alike_by k j x t q b c on false = inr (record { between = t ∷ q; same = refl; there = refl })
+
+    after_alike : (k j : ℕ) (x : A) (q b c : List Token)
+        → ((r : List Token) → length (r ++ b) ≤ k → length (r ++ c) ≤ j → Alike b c (others k (r ++ b))
+        (others j (r ++ c)))
+        → length (q ++ b) ≤ suc k → length (q ++ c) ≤ suc j
+        → Alike b c (after_part between (others k) (x, q ++ b)) (after_part between (others j) (x, q ++ c))
+    after_alike k j x [] b c on h i =
+        past_alike b c (after_part between (others j) (x, c)) (after_part between (others k) (x, b))
+        (after_past_of k x b)
+    after_alike k j x (t ∷ q) b c on h i =
+        after_alike_by k j x t q b c (on q (omega (arith, h)) (omega (arith, i))) (same_what t.what between)
+
+    separated_alike : (k j : ℕ) (p b c : List Token) → length (p ++ b) ≤ k → length (p ++ c) ≤ j →
+        Alike b c (others k (p ++ b)) (others j (p ++ c))
+    separated_alike k j [] b c h i = past_alike b c (others j c) (others k b) (separated_past k b)
+    separated_alike zero j (t ∷ p) b c h i = absurd (let wrong : ⊥ = omega (arith, h) in wrong)
+    separated_alike (suc k) zero (t ∷ p) b c h i = absurd (let wrong : ⊥ = omega (arith, i) in wrong)
+    separated_alike (suc k) (suc j) (t ∷ p) b c h i =
+        bind_alike b c (read (t ∷ p ++ c)) (after_part between (others k)) (after_part between (others j))
+        (after_past k) (read (t ∷ p ++ b))
+        (λ x q e.
+        let d = not_longer x (t ∷ p ++ b) (q ++ b) e in
+        let qb = length-append q b in let pb = length-append p b in
+        let qc = length-append q c in let pc = length-append p c in
+        after_alike k j x q b c (λ r. separated_alike k j r b c) (omega (arith, h, d))
+        (omega (arith, i, d, qb, pb, qc, pc)))
+        (honest.alike (t ∷ p) b c)
+
+    pub separated_honest : Honest sep (separated between read)
+    separated_honest = record {
+      example = some_sep;
+      tells = λ ts. separated_tells (length ts) ts;
+      alike = λ p b c. separated_alike (length (p ++ b)) (length (p ++ c)) p b c (omega arith) (omega arith);
+    }
+
+  -- ---- with commas between and signs round them, or nothing
+
+  module _ (left right : SignOf) where
+    abbrev inside_kind : Kind (List A)
+    inside_kind = behind_kind (closed_kind (separated_kind kind (fixed (Sign Comma ∷ []))) (Sign right ∷ []))
+        (Sign left ∷ [])
+
+    abbrev inside_at : List Token → Read (List A)
+    inside_at = behind_tokens (Sign left ∷ []) (closed (Sign right ∷ []) (listed read))
+
+    is_inside : (xs : List A) (us : List Token) → Is inside_kind xs us → Is (bracketed_kind kind left right) xs us
+    is_inside [] us h = absurd (let wrong = h.good in cc)
+    is_inside (x ∷ xs) us h = record { words = h.words; good = h.good }
+
+    inside_honest : Honest (bracketed_kind kind left right) inside_at
+    inside_honest =
+        kind_honest inside_kind (bracketed_kind kind left right) inside_at
+        (behind_honest (closed_kind (separated_kind kind (fixed (Sign Comma ∷ []))) (Sign right ∷ [])) (Sign left ∷ [])
+        (closed (Sign right ∷ []) (listed read))
+        (closed_honest (separated_kind kind (fixed (Sign Comma ∷ []))) (Sign right ∷ []) (listed read)
+        (separated_honest (Sign Comma))))
+        is_inside
+
+    bracketed_by : (t : Token) (ts : List Token) (v : Bool)
+        → cond v ((cond v (Ok ts) (no (t ∷ ts)) >>= tokens_at []) >>= closed (Sign right ∷ []) (listed read))
+        (read_of [] (t ∷ ts))
+        ≡ cond v (listed read ts >>= closed_at (Sign right ∷ [])) (read_of [] (t ∷ ts))
+    bracketed_by t ts true = refl
+    bracketed_by t ts false = refl
+
+    bracketed_same : (ts : List Token) → cond (is_front (Sign left) (front ts)) (inside_at ts) (read_of [] ts)
+        ≡ bracketed left right read ts
+    bracketed_same [] = refl
+    bracketed_same (t ∷ ts) = bracketed_by t ts (same_what t.what (Sign left))
+
+    pub bracketed_honest : Honest (bracketed_kind kind left right) (bracketed left right read)
+    bracketed_honest =
+        same_honest (bracketed_kind kind left right)
+        (λ ts. cond (is_front (Sign left) (front ts)) (inside_at ts) (read_of [] ts)) (bracketed left right read)
+        bracketed_same
+        (test_honest (bracketed_kind kind left right) (is_front (Sign left)) inside_at (read_of []) inside_honest
+        (none_honest (bracketed_kind kind left right) [] (record { words = tt; good = refl })))
+
+  -- ---- a part that may stand behind a token
+
+  module _ (what : What) where
+    abbrev some_at : List Token → Read (Option A)
+    some_at = shaped (λ x. Some x) (behind_tokens (what ∷ []) read)
+
+    optional_by : (t : Token) (ts : List Token) (v : Bool)
+        → cond v (((cond v (Ok ts) (no (t ∷ ts)) >>= tokens_at []) >>= read) >>= built_at (λ x. Some x))
+        (read_of None (t ∷ ts))
+        ≡ cond v (read ts >>= optional_of) (read_of None (t ∷ ts))
+    optional_by t ts true = refl
+    optional_by t ts false = refl
+
+    optional_same : (ts : List Token) → cond (is_front what (front ts)) (some_at ts) (read_of None ts) ≡
+        optional what read ts
+    optional_same [] = refl
+    optional_same (t ∷ ts) = optional_by t ts (same_what t.what what)
+
+    some_honest : Honest (optional_kind kind what) some_at
+    some_honest =
+        shaped_honest (behind_kind kind (what ∷ [])) (optional_kind kind what) (behind_tokens (what ∷ []) read)
+        (behind_honest kind (what ∷ []) read honest) (λ x. Some x)
+        (record { words = λ x g. refl; good = λ x g. g })
+
+    pub optional_honest : Honest (optional_kind kind what) (optional what read)
+    optional_honest =
+        same_honest (optional_kind kind what) (λ ts. cond (is_front what (front ts)) (some_at ts) (read_of None ts))
+        (optional what read) optional_same
+        (test_honest (optional_kind kind what) (is_front what) some_at (read_of None) some_honest
+        (none_honest (optional_kind kind what) None (record { words = tt; good = refl })))
