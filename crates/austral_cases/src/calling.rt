@@ -26,8 +26,8 @@ pub fn ending_of(alloc: Global, call: Call) -> Result<Ending, Memory>
     ensures { IfOk result (λ ending. CanEnd (map string_bytes call.words.items)
         (map file_of call.files.items) call.input.items ending.out.written ending.err.written ending.status) }
 {
-    let mut out = MemorySink::new(alloc, call.out_room, Vec::new(alloc))?;
-    let mut err = MemorySink::new(alloc, call.err_room, Vec::new(alloc))?;
+    let mut out = MemorySink::new(alloc, call.out_room, call.out_fails)?;
+    let mut err = MemorySink::new(alloc, call.err_room, call.err_fails)?;
     let mut shelf = MemoryShelf::new(call.files, call.fetch_fails);
     let mut input = MemorySource::new(call.input, call.input_fails);
     let words = call.words.as_slice();

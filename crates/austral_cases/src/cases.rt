@@ -20,8 +20,12 @@ pub struct Call {
     pub input_fails: Vec<u64>,
     /// How many bytes `out` has room for.
     pub out_room: usize,
+    /// The writes to `out` that are to fail, counted from 1.
+    pub out_fails: Vec<u64>,
     /// How many bytes `err` has room for.
     pub err_room: usize,
+    /// The writes to `err` that are to fail, counted from 1.
+    pub err_fails: Vec<u64>,
 }
 
 /// What is due for a call.
@@ -59,7 +63,9 @@ impl Case {
                 fetch_fails: Vec::new(alloc),
                 input_fails: Vec::new(alloc),
                 out_room: AMPLE_ROOM,
+                out_fails: Vec::new(alloc),
                 err_room: AMPLE_ROOM,
+                err_fails: Vec::new(alloc),
             },
             wanted: Wanted {
                 out: Vec::new(alloc),

@@ -107,7 +107,7 @@ fn read_head(alloc: Global, cases: &mut Vec<Case>, line: &str) -> Result<Part, L
 /// What the bytes below a head are added to.
 fn part_of(head: &str) -> Part {
     match head {
-        "file" | "blanks" => Part::File,
+        "file" | "blanks" | "repeat" => Part::File,
         "in:" => Part::Input,
         "out:" => Part::Out,
         "err:" => Part::Err,
@@ -121,11 +121,17 @@ fn read_value(alloc: Global, case: &mut Case, head: &str, value: &str) -> Result
         "words:" | "in:" | "out:" | "err:" => Ok(()),
         "words" => read_words(alloc, &mut case.call.words, value),
         "file" => open_file(alloc, &mut case.call.files, value),
-        "blanks" => add_blanks(&mut case.call.files, value),
+        "blanks" => add_copies(&mut case.call.files, value, " "),
+        "repeat" => {
+            let (count, text) = value.split_once(" ").unwrap_or((value, ""));
+            add_copies(&mut case.call.files, count, text)
+        }
         "shelf fails" => read_numbers(&mut case.call.fetch_fails, value),
         "in fails" => read_numbers(&mut case.call.input_fails, value),
         "out room" => read_number(&mut case.call.out_room, value),
+        "out fails" => read_numbers(&mut case.call.out_fails, value),
         "err room" => read_number(&mut case.call.err_room, value),
+        "err fails" => read_numbers(&mut case.call.err_fails, value),
         "status" => read_number(&mut case.wanted.status, value),
         _ => Err(LineFault::NoHead),
     }
@@ -149,20 +155,24 @@ fn open_file(
     Ok(())
 }
 
-/// Adds so many blanks to the last file.
-fn add_blanks(files: &mut Vec<(String, Vec<u8>)>, value: &str) -> Result<(), LineFault> {
+/// Adds a text to the last file so many times.
+fn add_copies(
+    files: &mut Vec<(String, Vec<u8>)>,
+    times: &str,
+    text: &str,
+) -> Result<(), LineFault> {
     let mut count = 0_u32;
-    read_number(&mut count, value)?;
+    read_number(&mut count, times)?;
     match files.last_mut() {
         None => Err(LineFault::NoRoom),
-        Some(file) => append_blanks(&mut file.1, count),
+        Some(file) => append_copies(&mut file.1, count, text.as_bytes()),
     }
 }
 
-/// Adds so many blanks to a room.
-fn append_blanks(room: &mut Vec<u8>, count: u32) -> Result<(), LineFault> {
+/// Adds bytes to a room so many times.
+fn append_copies(room: &mut Vec<u8>, count: u32, bytes: &[u8]) -> Result<(), LineFault> {
     for _ in 0..count {
-        room.push(b' ')?;
+        room.extend_from_slice(bytes)?;
     }
     Ok(())
 }
