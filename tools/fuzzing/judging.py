@@ -63,8 +63,8 @@ def told(status, out, err):
 
 
 def ran(status, out, err, opaque):
-    """What is wrong with an answer of `run --life` for what is accepted, by its events too. `opaque` gives the modules of
-    opaque types by their texts."""
+    """What is wrong with an answer of `run --life` for what is accepted, by its events too. `opaque` gives the modules
+    of opaque types by their texts."""
     if status is None:
         return "the run doesn't end"
     if status not in (0, 1, 2, 3, 4, 8):

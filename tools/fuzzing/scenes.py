@@ -49,7 +49,8 @@ record Hold[T: Type]: Type is item: T; end;
 union U: Linear is case None_; case One is one: L; case Two is left: L; right: P; end;
 union F: Free is case Zero; case Num is num: Nat8; case Pair_ is pair: Q; end;
 function eatL(x: L): Nat8 is let { v: Nat8 } := x; return v; end;
-function eatP(x: P): Nat8 is let { a: L, b: L, n: Nat8 } := x; let c: Nat8 := eatL(b); let d: Nat8 := eatL(a); return n; end;
+function eatP(x: P): Nat8 is let { a: L, b: L, n: Nat8 } := x;
+let c: Nat8 := eatL(b); let d: Nat8 := eatL(a); return n; end;
 function eatU(x: U): Nat8 is case x of when None_ do return 0; when One(one: L) do return eatL(one);
 when Two(left: L, right: P) do let c: Nat8 := eatL(left); return eatP(right); end case; end;
 function eatS(x: S): Nat8 is let { q: Q, u: U } := x; return eatU(u); end;
@@ -61,7 +62,8 @@ instance Ended(U) is method ended(value: U): Nat8 is return eatU(value); end; en
 instance Ended(Door) is method ended(value: Door): Nat8 is return shut(value); end; end;
 generic [T: Type(Ended)] instance Ended(Hold[T]) is method ended(value: Hold[T]): Nat8 is
 let { item: T } := value; return ended(item); end; end;
-generic [T: Type(Ended)] instance Ended(Box[T]) is method ended(value: Box[T]): Nat8 is return ended(unbox(value)); end; end;
+generic [T: Type(Ended)] instance Ended(Box[T]) is method ended(value: Box[T]): Nat8 is
+return ended(unbox(value)); end; end;
 generic [T: Type(Ended)] function finish(x: T): Nat8 is return ended(x); end;
 generic [T: Type] function same(x: T): T is return x; end;
 generic [T: Type, R: Region] function look(r: &[T, R]): Nat8 is return 1; end;
@@ -314,7 +316,8 @@ class Scene:
         elif kind == "write":
             ways += [("keep", [of]), ("boxGetMut", [(kind, ("Box", of[1]), of[2])])]
         else:
-            ways += [("swap", [("write", of, None), of]), ("trade", [("write", of, None), of]), ("unbox", [("Box", of)]),
+            ways += [("swap", [("write", of, None), of]), ("trade", [("write", of, None), of]),
+                     ("unbox", [("Box", of)]),
                      ("freed", [("Vault", of)]),
                      ("removeBack", [("write", ("Buffer", of), None)])]
         if kind in ("read", "write") and of[2] is None and ways[0][0] == "same":
