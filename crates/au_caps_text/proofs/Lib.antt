@@ -1,0 +1,4 @@
+pub mod ListLemmas
+pub mod PutLemmas
+pub mod SearchLemmas
+pub mod TurnLemmas

@@ -1,0 +1,7 @@
+pub mod Lines
+pub mod Lists
+pub mod Views
+pub mod Spreading
+pub mod Turning
+pub mod Putting
+pub mod Examples
