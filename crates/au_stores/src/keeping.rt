@@ -1,7 +1,7 @@
 //! What is kept of births.
 
 ghost use Rattle.std.specs.Prelude.{◌≡◌, ℕ, ◌∷◌, ◌++◌, [], Some, nat_eq, map, length, is_some, slice_get, slice_set};
-ghost use Rattle.std.specs.Prelude.{if◌then◌else◌, IfOk, OnOk};
+ghost use Rattle.std.specs.Prelude.{if◌then◌else◌, IfSome, IfOk, OnOk};
 ghost use Rattle.std.specs.Option.{option_map, option_copied};
 ghost use Rattle.indexmap.specs.IndexMap.{get};
 ghost use Rattle.au_effects.specs.Parts.{along, part};
@@ -9,7 +9,7 @@ ghost use Rattle.au_effects.specs.Worlds as effect;
 ghost use Rattle.au_effects.specs.Places.{content_in};
 ghost use Rattle.au_effects.specs.Calls.{elements_in};
 ghost use Rattle.au_cells.specs.Cells.{low};
-ghost use Rattle.au_stores.specs.Births.{kept_with, or_nothing, there};
+ghost use Rattle.au_stores.specs.Births.{kept_with, or_nothing, there, StandsAt};
 ghost use Rattle.au_stores.specs.Stores.{held_of, cells_of, content_of_birth, with_content_part};
 
 use crate::worlds::Held;
@@ -88,7 +88,11 @@ impl Births {
     pub fn get(&self, id: u64) -> Option<&Held>
         ensures { there self.now id ≡ or_nothing (option_copied result) }
     {
-        self.kept.get(&id)
+        let newest = self.kept.len().saturating_sub(1);
+        match self.kept.get_index(newest) {
+            Some((one, birth_held)) if *one == id => Some(birth_held),
+            _ => self.kept.get(&id),
+        }
     }
 
     /// Puts what there is of a birth, if it is there.
@@ -100,6 +104,10 @@ impl Births {
         ensures { OnOk result (map held_of self.new ≡ slice_set (map held_of self.old) id (held_of birth_held)) }
     {
         if self.count <= id {
+            return Ok(());
+        }
+        if let Some(place) = newest_of(&self.kept, id) {
+            exchange_at(&mut self.kept, id, place, birth_held);
             return Ok(());
         }
         self.kept.insert(id, birth_held)?;
@@ -174,12 +182,39 @@ impl Births {
     }
 }
 
+/// The place of the newest of what is kept, if that is of this birth.
+#[inline(always)]
+fn newest_of(kept: &IndexMap<u64, Held>, id: u64) -> Option<usize>
+    ensures { IfSome result (λ place. StandsAt kept.now id place) }
+{
+    let newest = kept.len().checked_sub(1)?;
+    match kept.get_index(newest) {
+        Some((one, _held)) if *one == id => Some(newest),
+        _ => None,
+    }
+}
+
+/// Puts something in the place of what is kept of a birth, and gives that.
+#[inline(always)]
+fn exchange_at(kept: &mut IndexMap<u64, Held>, id: u64, place: usize, birth_held: Held) -> Held
+    requires { StandsAt kept.old id place }
+    ensures old { Some result ≡ get nat_eq kept.old id }
+    ensures new { (other : ℕ) → get nat_eq kept.new other
+        ≡ kept_with id (Some birth_held) (get nat_eq kept.old) other }
+{
+    let (_one, there) = kept.pair_mut(place);
+    mem::replace(there, birth_held)
+}
+
 /// Puts something in the place of what is kept of a birth, and gives that. Where nothing is, nothing changes.
 fn exchange(kept: &mut IndexMap<u64, Held>, id: u64, birth_held: Held) -> Option<Held>
     ensures old { result ≡ get nat_eq kept.old id }
     ensures new { (other : ℕ) → get nat_eq kept.new other
         ≡ kept_with id (option_map (λ _. birth_held) result) (get nat_eq kept.old) other }
 {
+    if let Some(place) = newest_of(kept, id) {
+        return Some(exchange_at(kept, id, place, birth_held));
+    }
     let place = kept.get_mut(&id)?;
     Some(mem::replace(place, birth_held))
 }

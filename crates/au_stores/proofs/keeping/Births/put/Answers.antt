@@ -13,3 +13,8 @@ pub returns : goal.returns
 returns c =
     held_with c.self.inside.count c.args.id (Some c.args.birth_held) (get nat_eq c.self.inside.kept)
     (get nat_eq c.insert.new.self) c.args.self.now c.self.view_is c.in_ok-insert.ensures.updates.0
+
+pub returns-in-Some : goal.returns-in-Some
+returns-in-Some c =
+    held_with c.self.inside.count c.args.id (Some c.args.birth_held) (get nat_eq c.self.inside.kept)
+    (get nat_eq c.exchange_at.new.kept) c.args.self.now c.self.view_is c.exchange_at.ensures.new
