@@ -1,7 +1,7 @@
 -- What is told of the readers of calls and atoms.
-use Rattle.std.proofs.Common.{◌≡◌, ℕ, suc, ◌≤◌, Bool, true, false, ◌&&◌, List, [], ◌∷◌, ◌++◌, length, map, drop}
-use Rattle.std.proofs.Common.{Option, Some, None, Ok, refl, sym, ap, ◌∙◌, subst, arith, inl, inr}
-use Rattle.std.specs.List.{list_all, flat_map}
+use Rattle.std.proofs.Common.{◌≡◌, Bool, true, false, ◌&&◌, List, [], ◌∷◌, ◌++◌, length, map}
+use Rattle.std.proofs.Common.{Option, Some, refl, ap, ◌∙◌, subst, arith}
+use Rattle.std.specs.List.{list_all}
 use Rattle.std.proofs.lemmas.Bool.{and_parts, and_from}
 use Rattle.std.proofs.lemmas.List.Folds.{flat_map-map}
 use Rattle.au_base.specs.declared.places.Pos.{Pos}
@@ -18,7 +18,7 @@ use Rattle.au_syntax.specs.Forms.{some, is_atom, is_call, some_arguments, formed
 use Rattle.au_syntax.specs.Forms.{formed_arguments}
 use Rattle.au_syntax.specs.Names.{Placed}
 use Rattle.au_syntax.specs.Plain.{Bytes, PlainExpression}
-use Rattle.au_syntax.specs.Words.{Words, begun, word, mark, listed, name_words, expression_words, words_of_expressions}
+use Rattle.au_syntax.specs.Words.{Words, begun, mark, listed, name_words, expression_words, words_of_expressions}
 use Rattle.au_syntax.specs.Words.{words_of_arguments}
 use Rattle.au_read_expressions.specs.Reading.{Read, ◌>>=◌, same_what, behind_tokens, closed, pair, shaped, built}
 use Rattle.au_read_expressions.specs.Reading.{name_at, number_at, text_at, exactly, dotted_at, fields_at, separated_at}
@@ -35,14 +35,13 @@ use Rattle.au_read_expressions.specs.ExpressionReading.{arrow_parts, labelled, n
 use Rattle.au_read_expressions.specs.ExpressionReading.{call_with}
 use Rattle.au_read_expressions.specs.ExpressionReading.{named_by, borrowed_by, atom_by, atom_with, site}
 use Rattle.au_read_expressions.proofs.ExpressionForm.{call_is_atom}
-use Rattle.au_read_expressions.proofs.Steps.{same_self}
 use Rattle.au_fault_places.proofs.Told.{Kind, Is, Example, Past, Alike, Honest, bind_past, past_alike, tokens_past}
-use Rattle.au_fault_places.proofs.Ways.{light, honest_past, no_honest, behind_kind, closed_kind, pair_kind}
+use Rattle.au_fault_places.proofs.Ways.{honest_past, no_honest, behind_kind, closed_kind, pair_kind}
 use Rattle.au_fault_places.proofs.Ways.{behind_honest}
 use Rattle.au_fault_places.proofs.Ways.{closed_honest, pair_honest, shaped_honest, built_honest, kind_honest}
 use Rattle.au_fault_places.proofs.Ways.{two_honest}
-use Rattle.au_fault_places.proofs.Ways.{Opens, behind_opens, pair_opens, shaped_opens, built_opens}
-use Rattle.au_fault_places.proofs.Ways.{closed_opens, open_alike}
+use Rattle.au_fault_places.proofs.Ways.{Opens, behind_opens, pair_opens, built_opens}
+use Rattle.au_fault_places.proofs.Ways.{open_alike}
 use Rattle.au_fault_places.proofs.Lists.{separated_kind, separated_honest, after_past}
 use Rattle.au_fault_places.proofs.Single.{name_kind, name_honest, name_opens, number_kind, number_honest, text_kind}
 use Rattle.au_fault_places.proofs.Single.{text_honest, exactly_kind, exactly_honest, dotted_kind, dotted_honest}

@@ -1,39 +1,38 @@
 -- What is told of the reader of conditionals: whether a branch follows is told by two tokens, `else if`.
-use Rattle.std.proofs.Common.{◌≡◌, ℕ, zero, suc, ◌+◌, ◌<◌, ◌≤◌, Bool, true, false, not, ◌&&◌, List, [], ◌∷◌, ◌++◌}
+use Rattle.std.proofs.Common.{◌≡◌, ℕ, zero, suc, ◌<◌, ◌≤◌, Bool, true, false, not, ◌&&◌, List, [], ◌∷◌, ◌++◌}
 use Rattle.std.proofs.Common.{length, map, drop, Option, Some, None, Ok, Err, refl, sym, ap, ap₂, ◌∙◌, subst}
-use Rattle.std.proofs.Common.{arith, inl, inr}
+use Rattle.std.proofs.Common.{arith, inr}
 use Rattle.std.proofs.Common.{cond, append_assoc, append-nil, length-append}
-use Rattle.std.specs.List.{list_all, flat_map}
+use Rattle.std.specs.List.{list_all}
 use Rattle.std.proofs.lemmas.Bool.{and_parts, and_from}
 use Rattle.au_base.specs.declared.places.Pos.{Pos}
 use Rattle.au_base.specs.declared.tokens.Keyword.TheVariants.{KwIf, KwThen, KwElse, KwEnd}
 use Rattle.au_base.specs.declared.tokens.Sign.TheVariants.{Semicolon}
 use Rattle.au_base.specs.declared.tokens.Token.{Token}
-use Rattle.au_base.specs.declared.tokens.What.{What}
 use Rattle.au_base.specs.declared.tokens.What.TheVariants.{Word, Sign}
-use Rattle.au_syntax.specs.Forms.{some, begins_with_if, some_branches, formed_expression, formed_block, formed_branches}
+use Rattle.au_syntax.specs.Forms.{begins_with_if, some_branches, formed_expression, formed_block, formed_branches}
 use Rattle.au_syntax.specs.Forms.{formed_statement}
 use Rattle.au_syntax.specs.Plain.{PlainExpression, PlainStatement, PlainStatements}
 use Rattle.au_syntax.specs.Statements.{no_statements, statements, conditional, conditional_else, no_branches, branches}
 use Rattle.au_syntax.specs.Words.{Words, AreWords, word, mark, begun, separated, expression_words, block_words}
 use Rattle.au_syntax.specs.Words.{words_of_branches, statement_words}
 use Rattle.au_read_expressions.specs.Bounds.{Bounds}
-use Rattle.au_read_expressions.specs.Reading.{Read, ◌>>=◌, no, same_what, begins_with, read_of, behind_tokens}
+use Rattle.au_read_expressions.specs.Reading.{Read, ◌>>=◌, same_what, begins_with, read_of}
 use Rattle.au_read_expressions.specs.Reading.{pair, joined_at}
-use Rattle.au_read_expressions.specs.Reading.{joined_with, built_at, before_all, optional_of, optional, closed, built}
+use Rattle.au_read_expressions.specs.Reading.{joined_with, built_at, before_all, optional_of, optional}
 use Rattle.au_read_expressions.specs.Spelling.{fixed}
 use Rattle.au_read_expressions.proofs.Steps.{same_is, same_self}
 use Rattle.au_read_statements.specs.StatementReading.{else_if, branch_with, after_branch, branches_within}
 use Rattle.au_read_statements.specs.StatementReading.{branches_with}
 use Rattle.au_read_statements.specs.StatementReading.{branches_of, conditional_by, conditional_of, conditional_with}
 use Rattle.au_read_statements.proofs.Nesting.{nest_3, nest_4}
-use Rattle.au_fault_places.proofs.Told.{Kind, Is, Example, Fronts, Whole, Begun, Tells, Past, On, Alike}
+use Rattle.au_fault_places.proofs.Told.{Kind, Is, Example, Fronts, Tells, Past, Alike}
 use Rattle.au_fault_places.proofs.Told.{Honest, are_join}
 use Rattle.au_fault_places.proofs.Told.{built_tells, bind_tells, past_more, tells_past, bind_past, past_alike}
 use Rattle.au_fault_places.proofs.Told.{bind_alike}
 use Rattle.au_fault_places.proofs.Told.{built_alike}
 use Rattle.au_fault_places.proofs.Ways.{honest_past, no_tells, behind_kind, pair_kind, closed_kind, behind_honest}
-use Rattle.au_fault_places.proofs.Ways.{closed_honest, built_honest, same_honest}
+use Rattle.au_fault_places.proofs.Ways.{closed_honest, built_honest}
 use Rattle.au_fault_places.proofs.Lists.{separated_kind, shorter}
 use Rattle.au_fault_places.proofs.Rows.{pair_behind}
 use Rattle.au_fault_places.proofs.Atoms.{expression_kind}

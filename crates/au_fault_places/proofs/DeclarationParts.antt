@@ -1,10 +1,10 @@
 -- What is told of the readers of parts of declarations.
-use Rattle.std.proofs.Common.{◌≡◌, ◌<◌, Bool, true, false, ◌&&◌, List, [], ◌∷◌, ◌++◌, length, map, Option, Some, None}
-use Rattle.std.proofs.Common.{refl, subst, arith, cond, append_assoc}
+use Rattle.std.proofs.Common.{◌≡◌, true, List, [], ◌∷◌, map, Some}
+use Rattle.std.proofs.Common.{refl, subst, arith, append_assoc}
 use Rattle.std.specs.List.{flat_map, list_all}
 use Rattle.std.proofs.lemmas.Bool.{and_parts}
 use Rattle.au_base.specs.declared.places.Pos.{Pos}
-use Rattle.au_base.specs.declared.tokens.Keyword.TheVariants.{KwIs, KwEnd, KwCase, KwGeneric, KwInstance}
+use Rattle.au_base.specs.declared.tokens.Keyword.TheVariants.{KwIs, KwCase, KwGeneric, KwInstance}
 use Rattle.au_base.specs.declared.tokens.Keyword.TheVariants.{KwMethod, KwFree}
 use Rattle.au_base.specs.declared.tokens.Keyword.TheVariants.{KwLinear, KwAnyUniverse, KwRegion}
 use Rattle.au_base.specs.declared.tokens.Sign.TheVariants.{LeftParenthesis, RightParenthesis, LeftBracket, RightBracket}
@@ -24,7 +24,7 @@ use Rattle.au_syntax.specs.Words.{Words, word, in_universe_words, constrained_wo
 use Rattle.au_syntax.specs.Words.{universe_word, header_words, fields_words, case_fields_words, variant_words}
 use Rattle.au_syntax.specs.Words.{class_method_words, method_words, instance_words}
 use Rattle.au_read_expressions.specs.Bounds.{Bounds}
-use Rattle.au_read_expressions.specs.Reading.{Read, front, is_front, name_at, exactly, behind_tokens, closed}
+use Rattle.au_read_expressions.specs.Reading.{Read, is_front, name_at, exactly, behind_tokens, closed}
 use Rattle.au_read_expressions.specs.Reading.{pair, shaped}
 use Rattle.au_read_expressions.specs.Reading.{repeated, listed, bracketed, read_of}
 use Rattle.au_read_expressions.specs.Spelling.{fixed}

@@ -1,6 +1,6 @@
 -- What is told of the readers of declarations.
-use Rattle.std.proofs.Common.{◌≡◌, ◌<◌, Bool, true, false, ◌&&◌, List, [], ◌∷◌, ◌++◌, length, map, Option, Some, None}
-use Rattle.std.proofs.Common.{refl, sym, ap, ◌∙◌, arith, append_assoc}
+use Rattle.std.proofs.Common.{◌≡◌, Bool, true, false, List, [], ◌∷◌, ◌++◌, map, Option, Some, None}
+use Rattle.std.proofs.Common.{refl, ap, ◌∙◌, append_assoc}
 use Rattle.std.specs.List.{flat_map, list_all}
 use Rattle.std.proofs.lemmas.Bool.{and_parts}
 use Rattle.au_base.specs.declared.places.Pos.{Pos}
@@ -18,25 +18,25 @@ use Rattle.au_syntax.specs.declared.modules.Part.TheVariants.{Interface, Body}
 use Rattle.au_syntax.specs.Forms.{formed_block, formed_method, formed_declaration}
 use Rattle.au_syntax.specs.Modules.{InUniverse, Constrained, Header, Variant, record_type, union_type, class}
 use Rattle.au_syntax.specs.Names.{Placed}
-use Rattle.au_syntax.specs.Plain.{Bytes, PlainExpression, PlainStatements, PlainMethod, PlainDeclaration}
-use Rattle.au_syntax.specs.Types.{WrittenType, Labelled}
+use Rattle.au_syntax.specs.Plain.{Bytes, PlainDeclaration}
+use Rattle.au_syntax.specs.Types.{Labelled}
 use Rattle.au_syntax.specs.Words.{Words, word, mark, begun, listed_in, name_words, type_words}
 use Rattle.au_syntax.specs.Words.{expression_words, block_words}
 use Rattle.au_syntax.specs.Words.{end_at, universe_word, in_universe_words, generic_words, header_words, fields_words}
 use Rattle.au_syntax.specs.Words.{variant_words, class_method_words, method_words, instance_words, declaration_words}
 use Rattle.au_read_expressions.specs.Bounds.{Bounds}
-use Rattle.au_read_expressions.specs.Reading.{Read, no, front, is_front, name_at, behind_tokens, closed, pair, repeated}
+use Rattle.au_read_expressions.specs.Reading.{Read, is_front, name_at, behind_tokens, closed, pair, repeated}
 use Rattle.au_read_expressions.specs.TypeReading.{type_at}
 use Rattle.au_read_expressions.specs.ExpressionReading.{expression_at}
 use Rattle.au_parser.specs.DeclarationReading.{in_universe_at, generics_at, type_head_at, header_at, members_at}
-use Rattle.au_parser.specs.DeclarationReading.{instance_head_at, method_at, variant_at, class_method_at, Generalized}
+use Rattle.au_parser.specs.DeclarationReading.{instance_head_at, variant_at, class_method_at, Generalized}
 use Rattle.au_parser.specs.DeclarationReading.{a_function, an_instance, a_function_body, an_instance_body}
 use Rattle.au_parser.specs.DeclarationReading.{generalized_of}
 use Rattle.au_parser.specs.DeclarationReading.{constant_of, constant_body_of, opaque_of, record_of, union_of, class_of}
 use Rattle.au_parser.specs.DeclarationReading.{constant_at, constant_body_at, opaque_at, record_at, union_at, class_at}
 use Rattle.au_parser.specs.DeclarationReading.{generalized_in, generalized_at, general_at, declaration_by}
 use Rattle.au_parser.specs.DeclarationReading.{declaration_at}
-use Rattle.au_fault_places.proofs.Told.{Kind, Is, Example, Honest}
+use Rattle.au_fault_places.proofs.Told.{Kind, Honest}
 use Rattle.au_fault_places.proofs.Ways.{no_honest, behind_kind, closed_kind, pair_kind, behind_honest, closed_honest}
 use Rattle.au_fault_places.proofs.Ways.{pair_honest, shaped_honest, built_honest, first_honest}
 use Rattle.au_fault_places.proofs.Single.{name_kind, name_honest}
@@ -45,7 +45,7 @@ use Rattle.au_fault_places.proofs.Types.{type_kind, type_honest}
 use Rattle.au_fault_places.proofs.Atoms.{expression_kind}
 use Rattle.au_fault_places.proofs.Expressions.{levels}
 use Rattle.au_fault_places.proofs.Rows.{pair_behind}
-use Rattle.au_fault_places.proofs.DeclarationParts.{universe_kind, in_universe_kind, in_universe_honest, generics_kind}
+use Rattle.au_fault_places.proofs.DeclarationParts.{in_universe_kind, in_universe_honest, generics_kind}
 use Rattle.au_fault_places.proofs.DeclarationParts.{generics_honest, head_kind, head_honest, header_kind, header_honest}
 use Rattle.au_fault_places.proofs.DeclarationParts.{fields_kind, members_honest, variants_kind, variants_honest}
 use Rattle.au_fault_places.proofs.DeclarationParts.{class_methods_kind, class_methods_honest, method_kind}

@@ -1,11 +1,10 @@
 -- What is told of the readers of expressions.
-use Rattle.std.proofs.Common.{◌≡◌, ℕ, zero, suc, ◌<◌, ◌≤◌, nat_le, Bool, true, false, ◌&&◌, List, [], ◌∷◌, ◌++◌}
-use Rattle.std.proofs.Common.{length, drop, Option, Some, None, Ok, Err, refl, sym, ap, ◌∙◌, subst, arith}
-use Rattle.std.proofs.Common.{inl, inr, cond}
-use Rattle.std.proofs.Common.{append_assoc, length-append}
-use Rattle.std.proofs.lemmas.Bool.{and_parts, and_from, cond-true}
+use Rattle.std.proofs.Common.{◌≡◌, ℕ, zero, suc, ◌<◌, nat_le, Bool, true, false, ◌&&◌, List, [], ◌∷◌, ◌++◌}
+use Rattle.std.proofs.Common.{length, Option, Some, None, refl, sym, ap, ◌∙◌, subst, arith}
+use Rattle.std.proofs.Common.{inr, cond}
+use Rattle.std.proofs.Common.{append_assoc}
+use Rattle.std.proofs.lemmas.Bool.{and_parts}
 use Rattle.std.proofs.lemmas.List.{append-nil}
-use Rattle.au_base.specs.declared.limits.Limit.{Limit}
 use Rattle.au_base.specs.declared.places.Pos.{Pos}
 use Rattle.au_base.specs.declared.tokens.Keyword.TheVariants.{KwIf, KwThen, KwElse, KwNot}
 use Rattle.au_base.specs.declared.tokens.Sign.TheVariants.{LeftParenthesis, RightParenthesis, Colon}
@@ -22,9 +21,8 @@ use Rattle.au_syntax.specs.Types.{WrittenType}
 use Rattle.au_syntax.specs.Words.{Words, AreWords, begun, word, mark, expression_words, operator_words, type_words}
 use Rattle.au_read_expressions.specs.declared.faults.Fault.TheVariants.{Passed}
 use Rattle.au_read_expressions.specs.Bounds.{Bounds, nesting_limit}
-use Rattle.au_read_expressions.specs.Reading.{Read, ◌>>=◌, no, front, place_of, same_what, begins_with, behind_tokens}
-use Rattle.au_read_expressions.specs.Reading.{pair, name_at, read_of, is_front, built}
-use Rattle.au_read_expressions.specs.Spelling.{fixed}
+use Rattle.au_read_expressions.specs.Reading.{Read, ◌>>=◌, no, place_of, same_what, begins_with, behind_tokens}
+use Rattle.au_read_expressions.specs.Reading.{pair, name_at, built}
 use Rattle.au_read_expressions.specs.TypeReading.{type_at}
 use Rattle.au_read_expressions.specs.TypeStops.{is_name}
 use Rattle.au_read_expressions.specs.ExpressionReading.{begins_expression, begins_atom, operator_of, site, negation_of}
@@ -32,9 +30,9 @@ use Rattle.au_read_expressions.specs.ExpressionReading.{choice_of, atom_with, ch
 use Rattle.au_read_expressions.specs.ExpressionReading.{binary_of, typed_of, expression_by, expression_with, too_deep}
 use Rattle.au_read_expressions.specs.ExpressionReading.{expression_at, atom_at, no_call, call_at}
 use Rattle.au_read_expressions.proofs.Steps.{same_is}
-use Rattle.au_read_expressions.proofs.ExpressionForm.{expression_some, binary_good, good_binary, operator_what}
+use Rattle.au_read_expressions.proofs.ExpressionForm.{expression_some, good_binary, operator_what}
 use Rattle.au_read_expressions.proofs.ExpressionForm.{operator_fixed, operator_back}
-use Rattle.au_fault_places.proofs.Told.{Kind, Is, Example, Fronts, Whole, Begun, Tells, Past, Alike, Honest, fault_of}
+use Rattle.au_fault_places.proofs.Told.{Kind, Is, Example, Fronts, Begun, Tells, Past, Alike, Honest, fault_of}
 use Rattle.au_fault_places.proofs.Told.{are_join, are_size, begun_are, built_tells, bind_tells, past_more, tells_past}
 use Rattle.au_fault_places.proofs.Told.{bind_past, past_alike, bind_alike, built_alike}
 use Rattle.au_fault_places.proofs.Ways.{honest_past, no_honest, no_alike, behind_kind, pair_kind}
@@ -44,7 +42,7 @@ use Rattle.au_fault_places.proofs.Ways.{or_passed_alike, Opens, bind_opens}
 use Rattle.au_fault_places.proofs.Types.{type_kind, type_honest}
 use Rattle.au_fault_places.proofs.Single.{name_kind, name_honest, name_opens, name_example, a_name}
 use Rattle.au_fault_places.proofs.Atoms.{expression_kind, atom_kind, call_kind, expression_example}
-use Rattle.au_fault_places.proofs.Atoms.{atom_example, call_atom}
+use Rattle.au_fault_places.proofs.Atoms.{atom_example}
 use Rattle.au_fault_places.proofs.Atoms.{call_with_honest, call_with_opens, atom_with_honest, atom_with_takes}
 
 choice_words : (at : Pos) (c a z : PlainExpression)

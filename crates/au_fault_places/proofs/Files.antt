@@ -1,16 +1,15 @@
 -- What is told of the readers of imports, modules and files.
 use Rattle.std.proofs.Common.{◌≡◌, ℕ, zero, suc, ◌+◌, ◌<◌, ◌≤◌, nat_le, Bool, true, false, ◌&&◌, List, [], ◌∷◌, ◌++◌}
-use Rattle.std.proofs.Common.{length, map, drop, Option, Some, None, Ok, Err, refl, sym, ap, ◌∙◌, subst}
+use Rattle.std.proofs.Common.{length, map, drop, Option, None, refl, sym, ap, ◌∙◌, subst}
 use Rattle.std.proofs.Common.{arith, inr, cond}
 use Rattle.std.proofs.Common.{append_assoc, length-append}
 use Rattle.std.specs.List.{flat_map, list_all}
-use Rattle.std.proofs.lemmas.Bool.{and_parts, and_from}
+use Rattle.std.proofs.lemmas.Bool.{and_parts}
 use Rattle.std.proofs.lemmas.List.{append-nil}
 use Rattle.au_base.specs.declared.places.Pos.{Pos}
 use Rattle.au_base.specs.declared.tokens.Keyword.TheVariants.{KwModule, KwBody, KwIs, KwEnd, KwImport, KwPragma}
 use Rattle.au_base.specs.declared.tokens.Sign.TheVariants.{LeftParenthesis, RightParenthesis, Comma, Semicolon, Dot}
 use Rattle.au_base.specs.declared.tokens.Token.{Token}
-use Rattle.au_base.specs.declared.tokens.What.{What}
 use Rattle.au_base.specs.declared.tokens.What.TheVariants.{Word, Sign}
 use Rattle.au_syntax.specs.declared.modules.Part.{Part}
 use Rattle.au_syntax.specs.declared.modules.Part.TheVariants.{Interface, Body}
@@ -26,9 +25,9 @@ use Rattle.au_syntax.specs.Words.{pragma_words}
 use Rattle.au_syntax.specs.Words.{declaration_words}
 use Rattle.au_read_expressions.specs.declared.faults.Fault.TheVariants.{Passed}
 use Rattle.au_read_expressions.specs.Bounds.{Bounds, bytes_limit}
-use Rattle.au_read_expressions.specs.Reading.{Read, ◌>>=◌, no, front, is_front, same_what, name_at, read_of, exactly}
-use Rattle.au_read_expressions.specs.Reading.{behind_tokens, closed, pair, shaped, built, before_all}
-use Rattle.au_read_expressions.specs.Reading.{repeated, listed, built_at}
+use Rattle.au_read_expressions.specs.Reading.{Read, ◌>>=◌, front, is_front, same_what, name_at, read_of, exactly}
+use Rattle.au_read_expressions.specs.Reading.{behind_tokens, closed, pair, built, before_all}
+use Rattle.au_read_expressions.specs.Reading.{repeated, listed}
 use Rattle.au_read_expressions.specs.Spelling.{fixed}
 use Rattle.au_read_expressions.proofs.Steps.{same_is}
 use Rattle.au_read_statements.specs.StatementReading.{renaming_at}
@@ -37,7 +36,7 @@ use Rattle.au_parser.specs.ModuleReading.{name_step, names_within, module_name_a
 use Rattle.au_parser.specs.ModuleReading.{pragma_whats, pragma_of, pragma_at, ModuleParts, parts_of}
 use Rattle.au_parser.specs.ModuleReading.{part_whats, end_whats}
 use Rattle.au_parser.specs.ModuleReading.{part_by, module_of, parts_with, parts_at, module_at, ending, ended, file_at}
-use Rattle.au_fault_places.proofs.Told.{Kind, Is, Example, Fronts, Whole, Begun, Tells, Past, On, Alike}
+use Rattle.au_fault_places.proofs.Told.{Kind, Is, Example, Fronts, Tells, Past, Alike}
 use Rattle.au_fault_places.proofs.Told.{Honest, fault_of}
 use Rattle.au_fault_places.proofs.Told.{built_tells, bind_tells, past_more, tells_past, bind_past, past_alike}
 use Rattle.au_fault_places.proofs.Told.{bind_alike}

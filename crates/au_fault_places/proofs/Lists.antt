@@ -1,6 +1,6 @@
 -- Lists of parts keep what is told of reading.
-use Rattle.std.proofs.Common.{◌≡◌, ℕ, zero, suc, ◌+◌, ◌<◌, ◌≤◌, Bool, true, false, ◌&&◌, List, [], ◌∷◌, ◌++◌}
-use Rattle.std.proofs.Common.{length, map, drop, Option, Some, None, Ok, refl, sym, ap, ◌∙◌, subst, arith, inr, cond}
+use Rattle.std.proofs.Common.{◌≡◌, ℕ, zero, suc, ◌<◌, ◌≤◌, Bool, true, false, ◌&&◌, List, [], ◌∷◌, ◌++◌}
+use Rattle.std.proofs.Common.{length, map, Option, Some, None, Ok, refl, sym, ap, ◌∙◌, subst, arith, inr, cond}
 use Rattle.std.proofs.Common.{append_assoc, length-append}
 use Rattle.std.specs.List.{flat_map, list_all}
 use Rattle.std.proofs.lemmas.Bool.{and_from}
@@ -19,13 +19,13 @@ use Rattle.au_read_expressions.specs.Reading.{repeated_at, repeated, after_part,
 use Rattle.au_read_expressions.specs.Reading.{bracketed, optional_of, optional}
 use Rattle.au_read_expressions.specs.Spelling.{fixed}
 use Rattle.au_read_expressions.proofs.Steps.{same_is}
-use Rattle.au_fault_places.proofs.Told.{Kind, Is, Example, Whole, Begun, Tells, Past, On, Alike, Honest}
-use Rattle.au_fault_places.proofs.Told.{are_join, are_size, behind_tells, built_tells, bind_tells, past_more}
+use Rattle.au_fault_places.proofs.Told.{Kind, Is, Example, Whole, Tells, Past, Alike, Honest}
+use Rattle.au_fault_places.proofs.Told.{are_join, are_size, built_tells, bind_tells, past_more}
 use Rattle.au_fault_places.proofs.Told.{tells_past}
 use Rattle.au_fault_places.proofs.Told.{bind_past, past_alike, bind_alike, built_alike}
 use Rattle.au_fault_places.proofs.Ways.{same_honest, none_honest, behind_kind, closed_kind, behind_honest}
 use Rattle.au_fault_places.proofs.Ways.{closed_honest}
-use Rattle.au_fault_places.proofs.Ways.{kind_honest, no_tells, Shapes, shaped_honest, test_honest}
+use Rattle.au_fault_places.proofs.Ways.{kind_honest, no_tells, shaped_honest, test_honest}
 
 module _ {A : Type 0} (kind : Kind A) where
   -- one after another

@@ -1,6 +1,6 @@
 -- What is told of the readers of parts of statements.
-use Rattle.std.proofs.Common.{◌≡◌, ◌<◌, true, false, List, [], ◌∷◌, ◌++◌, length, Option, Some, None, refl}
-use Rattle.std.proofs.Common.{subst, arith}
+use Rattle.std.proofs.Common.{◌≡◌, [], ◌∷◌, ◌++◌, Option, Some, None, refl}
+use Rattle.std.proofs.Common.{subst}
 use Rattle.au_base.specs.declared.tokens.Keyword.TheVariants.{KwAs, KwEnd}
 use Rattle.au_base.specs.declared.tokens.Sign.TheVariants.{Colon, ReadBorrow, WriteBorrow, Reborrow}
 use Rattle.au_base.specs.declared.tokens.Token.{Token}

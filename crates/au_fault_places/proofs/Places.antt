@@ -1,11 +1,10 @@
 -- The place of a fault, by the words of the grammar.
 use Rattle.std.proofs.Common.{◌≡◌, ℕ, zero, suc, ◌+◌, ◌-◌, ◌<◌, ◌≤◌, nat_le, Bool, true, false, List, [], ◌∷◌}
-use Rattle.std.proofs.Common.{◌++◌, length, take, drop}
+use Rattle.std.proofs.Common.{◌++◌, length, take}
 use Rattle.std.proofs.Common.{Ok, Err, refl, sym, ap, ◌∙◌, subst, arith, inl, inr, ◌⊎◌, append_assoc, length-append}
 use Rattle.std.proofs.lemmas.Bool.{leb-true, leb-false}
 use Rattle.au_base.specs.declared.limits.Limit.{Limit}
 use Rattle.au_base.specs.declared.tokens.Token.{Token}
-use Rattle.au_syntax.specs.Forms.{formed_module}
 use Rattle.au_syntax.specs.Plain.{PlainModule}
 use Rattle.au_read_expressions.specs.declared.faults.Fault.{Fault}
 use Rattle.au_read_expressions.specs.declared.faults.Fault.TheVariants.{Syntax, Passed}

@@ -1,14 +1,14 @@
 -- Rows of the grammar that are chosen by more than one token: what they read, and what they take first.
-use Rattle.std.proofs.Common.{◌≡◌, ℕ, suc, ◌≤◌, Bool, true, false, List, [], ◌∷◌, ◌++◌, length, drop}
-use Rattle.std.proofs.Common.{Option, Some, None, Ok, refl, sym, ap, ◌∙◌, subst, arith, cond}
+use Rattle.std.proofs.Common.{Bool, true, false, List, [], ◌∷◌, ◌++◌, drop}
+use Rattle.std.proofs.Common.{Option, Some, None, Ok, arith, cond}
 use Rattle.au_base.specs.declared.places.Pos.{Pos}
 use Rattle.au_base.specs.declared.tokens.Token.{Token}
 use Rattle.au_base.specs.declared.tokens.What.{What}
 use Rattle.au_read_expressions.specs.Reading.{Read, ◌>>=◌, no, front, same_what, tokens_at, behind_tokens}
 use Rattle.au_read_expressions.specs.Reading.{pair, built_at, built}
-use Rattle.au_fault_places.proofs.Told.{Kind, Past, Alike, Honest, past_alike}
+use Rattle.au_fault_places.proofs.Told.{Kind, Alike, Honest, past_alike}
 use Rattle.au_fault_places.proofs.Ways.{honest_past, no_alike, behind_kind, pair_kind, behind_honest, pair_honest}
-use Rattle.au_fault_places.proofs.Ways.{Builds, built_honest, Opens, behind_opens, bind_opens, pair_opens}
+use Rattle.au_fault_places.proofs.Ways.{Builds, built_honest, Opens, behind_opens, bind_opens}
 use Rattle.au_fault_places.proofs.Ways.{built_opens, open_alike}
 
 -- a part, and another behind tokens

@@ -1,5 +1,5 @@
 -- Readers of single tokens, of names with dots and of names behind dots.
-use Rattle.std.proofs.Common.{◌≡◌, ◌<◌, Bool, true, false, List, [], ◌∷◌, length, Option, Some, None, refl}
+use Rattle.std.proofs.Common.{◌≡◌, true, false, List, [], ◌∷◌, Some, None, refl}
 use Rattle.std.proofs.Common.{ap, subst, arith}
 use Rattle.au_base.specs.declared.places.Pos.{Pos}
 use Rattle.au_base.specs.declared.tokens.Sign.TheVariants.{Dot}
@@ -13,11 +13,11 @@ use Rattle.au_syntax.specs.Words.{Words, name_words, literal_words}
 use Rattle.au_syntax.specs.declared.expressions.Literal.{Literal}
 use Rattle.au_read_expressions.specs.Reading.{is_front, exactly, nothing_at, behind_tokens, name_of, name_at}
 use Rattle.au_read_expressions.specs.Reading.{literal_of}
-use Rattle.au_read_expressions.specs.Reading.{number_at, bytes_of, text_at, dotted_at, fields_at, read_of}
+use Rattle.au_read_expressions.specs.Reading.{number_at, bytes_of, text_at, dotted_at, fields_at}
 use Rattle.au_read_expressions.specs.Spelling.{fixed}
 use Rattle.au_read_expressions.specs.TypeStops.{is_name}
 use Rattle.au_fault_places.proofs.Told.{Kind, Is, Example, Honest}
-use Rattle.au_fault_places.proofs.Ways.{light, none_honest, value_honest, behind_kind, behind_honest, kind_honest}
+use Rattle.au_fault_places.proofs.Ways.{light, none_honest, value_honest, behind_kind, behind_honest}
 use Rattle.au_fault_places.proofs.Ways.{Opens, value_opens}
 use Rattle.au_fault_places.proofs.Lists.{separated_kind, repeated_kind, separated_honest, repeated_honest}
 

@@ -1,6 +1,6 @@
 -- What is told of the readers of statements and blocks.
-use Rattle.std.proofs.Common.{◌≡◌, ℕ, zero, suc, ◌<◌, Bool, true, false, ◌&&◌, List, [], ◌∷◌, ◌++◌, length, map, drop}
-use Rattle.std.proofs.Common.{Option, Some, None, refl, sym, ap, ◌∙◌, subst, arith, length-append}
+use Rattle.std.proofs.Common.{◌≡◌, ℕ, zero, suc, ◌<◌, Bool, true, false, ◌&&◌, List, [], ◌∷◌, ◌++◌, length, map}
+use Rattle.std.proofs.Common.{Option, Some, refl, ap, ◌∙◌, subst, arith}
 use Rattle.std.specs.List.{flat_map, list_all}
 use Rattle.std.proofs.lemmas.Bool.{and_parts, and_from}
 use Rattle.au_base.specs.declared.places.Pos.{Pos}
@@ -24,15 +24,15 @@ use Rattle.au_syntax.specs.Plain.{Bytes, PlainExpression, PlainStatement, PlainS
 use Rattle.au_syntax.specs.Statements.{skip}
 use Rattle.au_syntax.specs.Types.{WrittenType, Bound}
 use Rattle.au_syntax.specs.declared.expressions.BorrowMode.{BorrowMode}
-use Rattle.au_syntax.specs.Words.{Words, word, mark, begun, listed, listed_in, name_words, bound_words}
+use Rattle.au_syntax.specs.Words.{word, mark, begun, listed, listed_in, name_words, bound_words}
 use Rattle.au_syntax.specs.Words.{binding_word, dotted}
 use Rattle.au_syntax.specs.Words.{expression_words, type_words, block_words, arm_words, mode_sign, end_at}
 use Rattle.au_syntax.specs.Words.{statement_words}
 use Rattle.au_read_expressions.specs.declared.faults.Fault.TheVariants.{Passed}
 use Rattle.au_read_expressions.specs.Bounds.{Bounds, nesting_limit}
-use Rattle.au_read_expressions.specs.Reading.{Read, no, front, is_front, same_what, name_at, exactly}
+use Rattle.au_read_expressions.specs.Reading.{Read, no, is_front, same_what, name_at}
 use Rattle.au_read_expressions.specs.Reading.{behind_tokens, closed}
-use Rattle.au_read_expressions.specs.Reading.{pair, bracketed, repeated, fields_at, built}
+use Rattle.au_read_expressions.specs.Reading.{pair, repeated, fields_at}
 use Rattle.au_read_expressions.specs.Spelling.{fixed}
 use Rattle.au_read_expressions.specs.TypeReading.{type_at}
 use Rattle.au_read_expressions.specs.TypeStops.{is_name}
@@ -52,13 +52,12 @@ use Rattle.au_read_statements.specs.StatementReading.{statement_with, block_with
 use Rattle.au_read_statements.specs.StatementReading.{statement_at, block_at, end_place}
 use Rattle.au_read_statements.proofs.FirstWords.{statement_some}
 use Rattle.au_read_statements.proofs.Nesting.{nest_4, nest_5, nest_6, nest_7, nest_9, nest_10}
-use Rattle.au_fault_places.proofs.Told.{Kind, Is, Example, Alike, Honest, fault_of, token_of}
+use Rattle.au_fault_places.proofs.Told.{Kind, Example, Alike, Honest, fault_of, token_of}
 use Rattle.au_fault_places.proofs.Ways.{honest_past, no_honest, behind_kind, closed_kind, pair_kind, behind_honest}
 use Rattle.au_fault_places.proofs.Ways.{closed_honest, pair_honest, shaped_honest, built_honest, first_honest}
 use Rattle.au_fault_places.proofs.Ways.{test_honest}
 use Rattle.au_fault_places.proofs.Ways.{second_honest, passed_honest, Opens, closed_opens, pair_opens}
-use Rattle.au_fault_places.proofs.Lists.{separated_kind, separated_honest, repeated_kind, repeated_honest}
-use Rattle.au_fault_places.proofs.Lists.{bracketed_kind}
+use Rattle.au_fault_places.proofs.Lists.{separated_honest, repeated_kind, repeated_honest}
 use Rattle.au_fault_places.proofs.Lists.{bracketed_honest}
 use Rattle.au_fault_places.proofs.Single.{name_kind, name_honest, name_opens, exactly_kind, exactly_honest, dotted_kind}
 use Rattle.au_fault_places.proofs.Single.{dotted_honest, fields_kind, fields_honest}

@@ -1,10 +1,9 @@
 -- What is told of reading, whatever it ends with. A tree that is read has the words before what is behind it; and
 -- the tokens before a fault begin some tree. What is read before some tokens doesn't depend on these.
-use Rattle.std.proofs.Common.{◌≡◌, ℕ, suc, ◌+◌, ◌<◌, ◌≤◌, Bool, true, false, List, [], ◌∷◌, ◌++◌, length, map}
-use Rattle.std.proofs.Common.{Ok, Err, Result, refl, sym, ap, ◌∙◌, subst, arith, inl, inr, ◌⊎◌, cond, append_assoc}
+use Rattle.std.proofs.Common.{◌≡◌, ℕ, suc, ◌+◌, ◌≤◌, Bool, true, false, List, [], ◌∷◌, ◌++◌, length, map}
+use Rattle.std.proofs.Common.{Ok, Err, refl, sym, ap, ◌∙◌, subst, arith, inl, inr, ◌⊎◌, cond, append_assoc}
 use Rattle.std.proofs.Common.{length-append}
-use Rattle.std.proofs.lemmas.Bool.{cond-true, cond-false}
-use Rattle.au_base.specs.declared.places.Pos.{Pos}
+use Rattle.std.proofs.lemmas.Bool.{cond-true}
 use Rattle.au_base.specs.declared.tokens.Token.{Token}
 use Rattle.au_base.specs.declared.tokens.What.{What}
 use Rattle.au_syntax.specs.Words.{Words, AreWords, begun}

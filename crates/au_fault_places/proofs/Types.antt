@@ -1,7 +1,7 @@
 -- What is told of the reader of types.
 use Rattle.std.proofs.Common.{◌≡◌, ℕ, zero, suc, ◌+◌, ◌-◌, ◌≤◌, Bool, true, false, List, [], ◌∷◌, ◌++◌}
 use Rattle.std.proofs.Common.{length, map, take}
-use Rattle.std.proofs.Common.{nat_le, Option, Some, None, Ok, Err, refl, sym, ap, ◌∙◌, subst, arith, inl, inr, cond}
+use Rattle.std.proofs.Common.{nat_le, Option, Some, Ok, Err, refl, sym, ap, ◌∙◌, subst, arith, inl, inr, cond}
 use Rattle.std.proofs.Common.{length-append}
 use Rattle.std.specs.Prelude.{codes}
 use Rattle.au_base.specs.declared.limits.Limit.{Limit}
@@ -13,16 +13,16 @@ use Rattle.au_syntax.specs.declared.types.Access.{Access}
 use Rattle.au_syntax.specs.declared.types.Access.TheVariants as access
 use Rattle.au_syntax.specs.Names.{Placed}
 use Rattle.au_syntax.specs.Plain.{Bytes}
-use Rattle.au_syntax.specs.Types.{WrittenType, WrittenTypes, named, reference, no_types, types}
+use Rattle.au_syntax.specs.Types.{WrittenType, named, no_types}
 use Rattle.au_syntax.specs.Words.{access_sign, begun, mark, name_words, listed_in, type_words, words_of_types}
 use Rattle.au_read_expressions.specs.declared.faults.Fault.TheVariants.{Syntax, Passed}
 use Rattle.au_read_expressions.specs.Bounds.{Bounds, depth_limit, nodes_limit}
-use Rattle.au_read_expressions.specs.Reading.{Read, front, name_at, no, behind_tokens, closed, pair, bracketed}
+use Rattle.au_read_expressions.specs.Reading.{Read, name_at, no, behind_tokens, closed, pair, bracketed}
 use Rattle.au_read_expressions.specs.TypeReading.{begins_type, types_of, named_of, reference_of}
 use Rattle.au_read_expressions.specs.TypeReading.{named_with, reference_with, type_by, type_with, type_within}
 use Rattle.au_read_expressions.specs.TypeReading.{nodes_in, nodes_before, too_many, nodes_here, judged, type_at}
 use Rattle.au_read_expressions.proofs.TypeNodes.{target_words}
-use Rattle.au_fault_places.proofs.Told.{Kind, Is, Example, Begun, Tells, Past, On, Alike, Honest, fault_of}
+use Rattle.au_fault_places.proofs.Told.{Kind, Example, Begun, Tells, Past, On, Alike, Honest, fault_of}
 use Rattle.au_fault_places.proofs.Told.{tells_past, token_of}
 use Rattle.au_fault_places.proofs.Ways.{no_honest, pair_kind, pair_honest, behind_kind, behind_honest, closed_kind}
 use Rattle.au_fault_places.proofs.Ways.{closed_honest, shaped_honest, built_honest, first_honest, test_honest}

@@ -1,8 +1,8 @@
 -- The ways to put readers together: each keeps what is told of reading.
-use Rattle.std.proofs.Common.{◌≡◌, ℕ, suc, ◌+◌, ◌<◌, ◌≤◌, Bool, true, false, ◌&&◌, List, [], ◌∷◌, ◌++◌, length, drop}
-use Rattle.std.proofs.Common.{Option, Some, None, Ok, Err, refl, sym, ap, ◌∙◌, subst, arith, inl, inr, cond}
+use Rattle.std.proofs.Common.{◌≡◌, ℕ, ◌≤◌, Bool, true, false, ◌&&◌, List, [], ◌∷◌, ◌++◌, length, drop}
+use Rattle.std.proofs.Common.{Option, Some, None, Ok, Err, refl, sym, ap, ◌∙◌, subst, arith, inr, cond}
 use Rattle.std.proofs.Common.{append_assoc, length-append}
-use Rattle.std.proofs.lemmas.Bool.{and_from, cond-true, cond-false}
+use Rattle.std.proofs.lemmas.Bool.{and_from, cond-false}
 use Rattle.std.proofs.lemmas.List.{append-nil}
 use Rattle.au_base.specs.declared.places.Pos.{Pos}
 use Rattle.au_base.specs.declared.tokens.Token.{Token}
@@ -10,14 +10,14 @@ use Rattle.au_base.specs.declared.tokens.What.{What}
 use Rattle.au_syntax.specs.Words.{Words, AreWords, begun}
 use Rattle.au_base.specs.declared.limits.Limit.{Limit}
 use Rattle.au_read_expressions.specs.declared.faults.Fault.TheVariants.{Syntax, Passed}
-use Rattle.au_read_expressions.specs.Reading.{Read, ◌>>=◌, no, front, place_of, same_what, begins_with}
+use Rattle.au_read_expressions.specs.Reading.{Read, ◌>>=◌, no, front, place_of, same_what}
 use Rattle.au_read_expressions.specs.Reading.{tokens_at, read_of}
 use Rattle.au_read_expressions.specs.Reading.{behind_tokens, closed, closed_at, pair, joined_at, joined_with, shaped}
 use Rattle.au_read_expressions.specs.Reading.{built_at, built, value_at, value_or_no}
 use Rattle.au_read_expressions.specs.Spelling.{fixed}
-use Rattle.au_fault_places.proofs.Told.{Kind, Is, Example, Fronts, Whole, Begun, Tells, Past, On, Alike, Honest}
+use Rattle.au_fault_places.proofs.Told.{Kind, Is, Example, Begun, Tells, Past, Alike, Honest}
 use Rattle.au_fault_places.proofs.Told.{fault_of, are_join, begun_are, tokens_of, fixed_are, behind_tells, built_tells}
-use Rattle.au_fault_places.proofs.Told.{bind_tells, past_more, tells_past, bind_past, past_alike, bind_alike}
+use Rattle.au_fault_places.proofs.Told.{bind_tells, tells_past, bind_past, past_alike, bind_alike}
 use Rattle.au_fault_places.proofs.Told.{built_alike, tokens_tell, tokens_past, tokens_take, tokens_alike}
 
 -- a tree that always has its form

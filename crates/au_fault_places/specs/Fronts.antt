@@ -1,5 +1,5 @@
 -- Which tokens begin the words of a file, and the place at which tokens stop doing so.
-use Rattle.std.specs.Prelude.{◌≡◌, ◌≤◌, ◌<◌, ◌+◌, ℕ, IsTrue, List, ◌++◌, length, take}
+use Rattle.std.specs.Prelude.{◌≤◌, ◌<◌, ◌+◌, ℕ, IsTrue, List, ◌++◌, length, take}
 use Rattle.au_base.specs.declared.tokens.Token.{Token}
 use Rattle.au_syntax.specs.Forms.{formed_module}
 use Rattle.au_syntax.specs.Plain.{PlainModule}
