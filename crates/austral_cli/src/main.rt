@@ -10,8 +10,16 @@ use std::{env, io};
 fn main(rt: HostRuntime) -> ExitCode {
     match words_of(&rt) {
         Ok(words) => status_of(rt, words.as_slice()),
-        // Words that can't be read ask for nothing, and nothing is written.
-        Err(_) => ExitCode::from(Status::Words.number()),
+        Err(error) => ExitCode::from(status_without_words(&error).number()),
+    }
+}
+
+/// How the program ends where its words can't be read: for want of memory, or since they ask for nothing. Nothing is
+/// written.
+fn status_without_words(error: &io::Error) -> Status {
+    match error.kind() {
+        io::ErrorKind::OutOfMemory => Status::Memory,
+        _ => Status::Words,
     }
 }
 
