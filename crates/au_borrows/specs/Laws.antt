@@ -1,6 +1,7 @@
 -- How the invariant goes on from one action to the next: what an action makes of memory, what it tells, and the
 -- rows that it adds.
-use Rattle.std.specs.Prelude.{◌≡◌, ◌⊎◌, ℕ, ◌+◌, ◌<◌, ◌==◌, true, List, [], ◌∷◌, ◌++◌, Option, Some}
+use Rattle.std.specs.Prelude.{◌≡◌, ◌⊎◌, ℕ, ◌+◌, ◌<◌, ◌==◌, true}
+use Rattle.std.specs.Prelude.{List, [], ◌∷◌, ◌++◌, Option, Some}
 use Rattle.au_effects.specs.Worlds.{born}
 use Rattle.au_events.specs.Counts.{one_if}
 use Rattle.au_events.specs.Events.{AllClosed, Once}
@@ -23,7 +24,8 @@ AreParts s q =
 -- Each loan of a table is one of another, or of this token and this borrow.
 abbrev pub AreOpened : ℕ → ℕ → Table → Table → Type 0
 AreOpened z b s q =
-    (g : ℕ) (l : Loan) → q g ≡ Some l → IsLoan l.via → (s g ≡ Some l) ⊎ ((l.token ≡ z) × (l.borrow ≡ b))
+    (g : ℕ) (l : Loan) → q g ≡ Some l → IsLoan l.via
+    → (s g ≡ Some l) ⊎ ((l.token ≡ z) × (l.borrow ≡ b))
 
 module _ (B : Type 0) (types : Types) (owner : B → Option (List ℕ)) (acts : List Act) (hold : Holds)
     (type : ℕ → ℕ → Meaning) (under : Made) (s : Table) (m : Memory (List ℕ)) (w : Told B)
@@ -32,7 +34,8 @@ module _ (B : Type 0) (types : Types) (owner : B → Option (List ℕ)) (acts : 
   abbrev pub held : ℕ → ℕ
   held i = in_forest (birth i) inv.core.top inv.core.forest + in_list (birth i) inv.core.trees
 
-  module _ (clock : ℕ) (others : Holds) (kinds : ℕ → ℕ → Meaning) (now : Made) (q : Table) (n : Memory (List ℕ))
+  module _ (clock : ℕ) (others : Holds) (kinds : ℕ → ℕ → Meaning) (now : Made) (q : Table)
+      (n : Memory (List ℕ))
       (after : Core types clock (is_active acts) (is_active acts) others kinds now q n) where
     -- how often a birth is held afterwards
     abbrev pub held_after : ℕ → ℕ
@@ -59,8 +62,8 @@ module _ (B : Type 0) (types : Types) (owner : B → Option (List ℕ)) (acts : 
   -- the opening of a borrow for the newest token,
   abbrev pub OpensOn : Type 0
   OpensOn =
-      (a : Act) (older : List Act) (clock : ℕ) (others : Holds) (kinds : ℕ → ℕ → Meaning) (now : Made) (q : Table)
-      (n : Memory (List ℕ)) → acts ≡ a ∷ older
+      (a : Act) (older : List Act) (clock : ℕ) (others : Holds) (kinds : ℕ → ℕ → Meaning) (now : Made)
+      (q : Table) (n : Memory (List ℕ)) → acts ≡ a ∷ older
       → (after : Core types clock (is_active acts) (is_active acts) others kinds now q n)
       → ((i : ℕ) → in_forest (birth i) after.top after.forest + in_list (birth i) after.trees ≡ held i)
       → AreOpened a.token w.next_borrow s q → Inv types owner acts others kinds now q n (with_opening w)
