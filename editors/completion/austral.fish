@@ -20,10 +20,13 @@ end
 
 complete -c austral -f
 complete -c austral -n __austral_no_command -a check -d 'Say whether the program is accepted'
+complete -c austral -n __austral_no_command -a compile -d 'Judge the program, and write it as C'
 complete -c austral -n __austral_no_command -a explain -d 'Write the life of each resource'
+complete -c austral -n __austral_no_command -a format -d 'Write the layout of a file'
 complete -c austral -n __austral_no_command -a run -d 'Judge the program, and run it'
 complete -c austral -n __austral_no_command -l help -d 'Say how it is called'
 complete -c austral -n __austral_no_command -l version -d 'Say which sources it is built of'
+complete -c austral -n '__austral_command compile' -l entry -x -d 'The function to begin with, as M:f'
 complete -c austral -n '__austral_command run' -l entry -x -d 'The function to begin with, as M:f'
 complete -c austral -n '__austral_command run' -l steps -x -d 'How many steps the run may take'
 complete -c austral -n 'not __austral_no_command' -a '(__austral_files)'

@@ -1,6 +1,6 @@
 ;;; austral-mode.el --- Editing Austral -*- lexical-binding: t -*-
 
-;; Colours, comments, indentation, and the language server where Eglot is there.
+;; Colours, comments, indentation, the layout of files as they are saved, and the language server where Eglot is there.
 
 ;;; Code:
 
@@ -38,7 +38,7 @@
       (modify-syntax-entry sign "." table))
     table))
 
-(defvar austral-indent-offset 4 "How many blanks a step of indentation is.")
+(defvar austral-indent-offset 2 "How many blanks a step of indentation is.")
 
 ;; Indentation: one step for each declaration, block and arm that is open. The words from the last declaration of the
 ;; module on are gone over, and what is open is kept, as editors/server/austral_layout.py does.
@@ -173,6 +173,28 @@
   "Whether a word that dedents its line has just been typed."
   (and (looking-back "^[ \t]*\\(?:end\\|else\\|when\\|case\\)" (line-beginning-position)) 'do-indent))
 
+;; The layout of a file, by the compiler's command `format'.
+
+(defvar austral-program (or (getenv "AUSTRAL_PROGRAM") "austral") "The compiler.")
+(defvar austral-format-on-save t "Whether a file is laid out before it is saved.")
+
+(defun austral-format-buffer ()
+  "Lay the buffer out.  It stays as it is where it can't be read, or where no compiler is there."
+  (interactive)
+  (when (executable-find austral-program)
+    (let ((file (make-temp-file "austral" nil ".aum")) (laid (generate-new-buffer " *austral*"))
+          (coding-system-for-read 'utf-8-unix) (coding-system-for-write 'utf-8-unix))
+      (unwind-protect
+          (progn
+            (write-region nil nil file nil 'silent)
+            (when (eql 0 (call-process austral-program nil (list laid nil) nil "format" file))
+              (replace-buffer-contents laid)))
+        (delete-file file)
+        (kill-buffer laid)))))
+
+(defun austral--save ()
+  (when austral-format-on-save (austral-format-buffer)))
+
 ;;;###autoload
 (define-derived-mode austral-mode prog-mode "Austral"
   "A mode for files of Austral."
@@ -180,6 +202,7 @@
   (setq-local indent-tabs-mode nil)
   (setq-local indent-line-function #'austral-indent-line)
   (add-hook 'electric-indent-functions #'austral--electric nil t)
+  (add-hook 'before-save-hook #'austral--save nil t)
   (setq-local font-lock-defaults '(austral-font-lock)))
 
 ;;;###autoload

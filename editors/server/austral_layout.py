@@ -1,9 +1,9 @@
-"""How far a line of Austral is indented: by four blanks for each declaration, block and arm that is open."""
+"""How far a line of Austral is indented: by two blanks for each declaration, block and arm that is open."""
 import dataclasses
 
 import austral_reading as reading
 
-STEP = 4
+STEP = 2
 LOOPS = ("while", "for", "borrow")
 
 

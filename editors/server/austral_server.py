@@ -1,11 +1,11 @@
 #!/usr/bin/env python3
 """A language server for Austral, over the built compiler: it speaks the Language Server Protocol on its standard input
-and output, and asks `check` and `explain` what is so.
+and output, and asks `check`, `explain` and `format` what is so.
 
 - Refusals come as one types: each program that an open file belongs to is checked a moment after the last change.
 - Hover shows the life of a variable, what a name means, and on a refusal what docs/REFUSALS.md says of it.
 - Definitions are found in the file, in the modules that it imports, and in docs/LANGUAGE.md for shipped ones.
-- A line is indented anew where one types a newline or the last letter of `end`, `else`, `when` or `case`.
+- A file is laid out by `format`, where it can be read; a line is indented anew where one types a newline or the last letter of `end`, `else`, `when` or `case`.
 
 A program is the open file, the other part of its module, and the modules that it imports, from the files of the
 language in its folder and in the client's, one folder deeper and one higher. Which compiler is called: the client's
@@ -34,6 +34,7 @@ CAPABILITIES = {
     "textDocumentSync": {"openClose": True, "change": 1, "save": True},
     "hoverProvider": True,
     "definitionProvider": True,
+    "documentFormattingProvider": True,
     "documentOnTypeFormattingProvider": {"firstTriggerCharacter": "\n", "moreTriggerCharacter": ["d", "e", "n"]},
 }
 
@@ -365,6 +366,19 @@ class Server:
 
     # Layout
 
+    def formatting(self, params):
+        """The file as `format` writes it, where that is something else and the file can be read."""
+        path = path_of(params["textDocument"]["uri"])
+        text = self.texts.get(path)
+        if text is None or not self.program:
+            return []
+        said = programs.asked(self.program, "format", [path], self.sources(path))
+        if said.refusal or said.out == reading.printed(text):
+            return []
+        end = text.count("\n") + 1
+        whole = range_of(text, (1, 1), (end, len(line_of(text, end)) + 1))
+        return [{"range": whole, "newText": said.out}]
+
     def on_type(self, params):
         """How the line that is typed on is indented."""
         text = self.texts.get(path_of(params["textDocument"]["uri"]), "")
@@ -390,6 +404,7 @@ METHODS = {
     "textDocument/didSave": Server.saved,
     "textDocument/hover": Server.hover,
     "textDocument/definition": Server.definition,
+    "textDocument/formatting": Server.formatting,
     "textDocument/onTypeFormatting": Server.on_type,
 }
 

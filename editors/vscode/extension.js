@@ -132,7 +132,12 @@ function provide(session) {
     const found = await session.ask("textDocument/onTypeFormatting", { ...at(document, position), ch, options: {} });
     return (found || []).map((it) => vscode.TextEdit.replace(rangeOf(it.range), it.newText));
   };
+  const whole = async (document) => {
+    const found = await session.ask("textDocument/formatting", { textDocument: textOf(document), options: {} });
+    return (found || []).map((it) => vscode.TextEdit.replace(rangeOf(it.range), it.newText));
+  };
   return [
+    vscode.languages.registerDocumentFormattingEditProvider(LANGUAGE, { provideDocumentFormattingEdits: whole }),
     vscode.languages.registerHoverProvider(LANGUAGE, { provideHover: hover }),
     vscode.languages.registerDefinitionProvider(LANGUAGE, { provideDefinition: definition }),
     vscode.languages.registerOnTypeFormattingEditProvider(

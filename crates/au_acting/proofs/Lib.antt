@@ -8,3 +8,5 @@ pub mod ValueLemmas
 pub mod EndLemmas
 pub mod StartLemmas
 pub mod GrantLemmas
+pub mod TurnLemmas
+pub mod CasingLemmas

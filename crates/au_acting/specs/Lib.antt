@@ -5,3 +5,5 @@ pub mod Valuing
 pub mod Ending
 pub mod Starting
 pub mod Granting
+pub mod Turning
+pub mod Casing

@@ -7,6 +7,7 @@ ghost use Rattle.au_memory.specs.Forests.{Holds, Made};
 ghost use Rattle.au_memory.specs.Loans.{Types};
 ghost use Rattle.au_borrows.specs.Orders.{Act};
 ghost use Rattle.au_borrows.specs.Told.{Told};
+ghost use Rattle.au_acting.specs.Casing.{DropsReaders, HasParts, SeesItems, SeesParts};
 ghost use Rattle.au_acting.specs.Ending.{Begins, Ends, Finishes, Tells};
 ghost use Rattle.au_acting.specs.Granting.{EndsRoots, EndsTerminals, MakesRoots, MakesTerminals};
 ghost use Rattle.au_acting.specs.Granting.{UsesRoots, UsesTerminals};
@@ -15,6 +16,7 @@ ghost use Rattle.au_acting.specs.Naming.{Reads, Relends};
 ghost use Rattle.au_acting.specs.Referring.{Copies, CopiesItems, LendsContents, LendsParts, Moves};
 ghost use Rattle.au_acting.specs.Referring.{PutsItems, SeesContents, Swaps, TakesItems};
 ghost use Rattle.au_acting.specs.Starting.{Agrees, Starts};
+ghost use Rattle.au_acting.specs.Turning.{DropsPlains, Turns, UsesReaders, UsesSeconds, UsesWriters};
 ghost use Rattle.au_acting.specs.Valuing.{Drops, DropsWriters, EndsBuffers, MakesBoxes, MakesBuffers};
 ghost use Rattle.au_acting.specs.Valuing.{MakesFree, MakesLinear, OpensBoxes, OpensCases, Plains};
 
@@ -194,4 +196,39 @@ pub fn grants_come_and_go<B>()
     ensures root_used { (types : Types) (owner : B → Option (List ℕ)) (acts : List Act) (hold : Holds)
         (type : ℕ → ℕ → Meaning) (under : Made) (m : Memory (List ℕ)) (w : Told B)
         → UsesRoots B types owner acts hold type under m w }
+{}
+
+/// What references lead to is seen: parts of cases, and elements of buffers.
+pub fn cases_are_seen<B>()
+    ensures parts { (types : Types) (owner : B → Option (List ℕ)) (acts : List Act) (hold : Holds)
+        (type : ℕ → ℕ → Meaning) (under : Made) (m : Memory (List ℕ)) (w : Told B)
+        → HasParts B types owner acts hold type under m w }
+    ensures seen { (types : Types) (owner : B → Option (List ℕ)) (acts : List Act) (hold : Holds)
+        (type : ℕ → ℕ → Meaning) (under : Made) (m : Memory (List ℕ)) (w : Told B)
+        → SeesParts B types owner acts hold type under m w }
+    ensures items { (types : Types) (owner : B → Option (List ℕ)) (acts : List Act) (hold : Holds)
+        (type : ℕ → ℕ → Meaning) (under : Made) (m : Memory (List ℕ)) (w : Told B)
+        → SeesItems B types owner acts hold type under m w }
+    ensures dropped { (types : Types) (owner : B → Option (List ℕ)) (acts : List Act) (hold : Holds)
+        (type : ℕ → ℕ → Meaning) (under : Made) (m : Memory (List ℕ)) (w : Told B)
+        → DropsReaders B types owner acts hold type under m w }
+{}
+
+/// Values change places, those that hold nothing are dropped, and borrows are used.
+pub fn values_turn<B>()
+    ensures turned { (types : Types) (owner : B → Option (List ℕ)) (acts : List Act) (hold : Holds)
+        (type : ℕ → ℕ → Meaning) (under : Made) (m : Memory (List ℕ)) (w : Told B)
+        → Turns B types owner acts hold type under m w }
+    ensures plain { (types : Types) (owner : B → Option (List ℕ)) (acts : List Act) (hold : Holds)
+        (type : ℕ → ℕ → Meaning) (under : Made) (m : Memory (List ℕ)) (w : Told B)
+        → DropsPlains B types owner acts hold type under m w }
+    ensures writer { (types : Types) (owner : B → Option (List ℕ)) (acts : List Act) (hold : Holds)
+        (type : ℕ → ℕ → Meaning) (under : Made) (m : Memory (List ℕ)) (w : Told B)
+        → UsesWriters B types owner acts hold type under m w }
+    ensures reader { (types : Types) (owner : B → Option (List ℕ)) (acts : List Act) (hold : Holds)
+        (type : ℕ → ℕ → Meaning) (under : Made) (m : Memory (List ℕ)) (w : Told B)
+        → UsesReaders B types owner acts hold type under m w }
+    ensures second { (types : Types) (owner : B → Option (List ℕ)) (acts : List Act) (hold : Holds)
+        (type : ℕ → ℕ → Meaning) (under : Made) (m : Memory (List ℕ)) (w : Told B)
+        → UsesSeconds B types owner acts hold type under m w }
 {}

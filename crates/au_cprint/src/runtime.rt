@@ -271,6 +271,17 @@ HELPER V *own_part(W word, const uint32_t *path, int size) {
   return at;
 }
 
+/* the part that a path leads to from what a reference reaches, and the same, to change it */
+HELPER V *lent_part(W word, const uint32_t *path, int size) {
+  return size > 0 ? part(PLACE(word)->w, path, size) : PLACE(word);
+}
+HELPER V *lent_own_part(W word, const uint32_t *path, int size) {
+  V *at = PLACE(word);
+  if (size == 0) return at;
+  at->w = own(at->w);
+  return own_part(at->w, path, size);
+}
+
 /* references to the fields of what a reference reaches, and the number of its case */
 static V lent[64];
 static W lent_size;

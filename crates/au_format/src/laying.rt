@@ -14,7 +14,11 @@ use crate::standings::Previous;
 use au_base::{Memory, Token};
 use std::alloc::Global;
 
-/// The layout of a file, by its tokens.
+/// The layout of a file, whose number is `file` and whose tokens are these.
+///
+/// # Errors
+///
+/// `Memory` when memory runs out.
 pub fn lay_out(alloc: Global, file: u16, bytes: &[u8], tokens: &[Token]) -> Result<Vec<u8>, Memory>
     requires { Cut file bytes.now tokens.now }
     ensures { IfOk result (λ text. IsLayout bytes.now text.items) }

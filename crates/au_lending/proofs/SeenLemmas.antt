@@ -38,7 +38,7 @@ abbrev point_of : Tree → Meaning → Place → Point
 point_of tree type to = record { tree = tree; type = type; to = to }
 
 module _ (types : Types) where
-  field_leads : (i : ℕ) (one : Point) (tag : ℕ) (born : Option ℕ) (all : Trees) (of : List Meaning) (next : Meaning)
+  pub field_leads : (i : ℕ) (one : Point) (tag : ℕ) (born : Option ℕ) (all : Trees) (of : List Meaning) (next : Meaning)
       (tree : Tree) → types.fields one.type tag ≡ Some of → slice_get of i ≡ Some next → nth_tree i all ≡ Some tree
       → field_point types i one (a_made tag born all) ≡ Some (point_of tree next (part_at i one.to))
   field_leads i one tag born all of next tree a b c =
@@ -62,7 +62,7 @@ module _ (types : Types) where
   more_by step steps more one two three (Some next) e there go =
       ap (λ o. along o (point_at types (steps ++ more))) e ∙ go next there
 
-  point_more : (steps more : List Step) (one two three : Point) → point_at types steps one ≡ Some two
+  pub point_more : (steps more : List Step) (one two three : Point) → point_at types steps one ≡ Some two
       → point_at types more two ≡ Some three → point_at types (steps ++ more) one ≡ Some three
   point_more [] more one two three h k =
       let same : one ≡ two = cc in subst (λ p. point_at types more p ≡ Some three) (sym same) k
@@ -87,7 +87,7 @@ module _ (types : Types) where
       let points : one ≡ two = cc in
       (same, points)
 
-  nth_there : (s : Table) (i : ℕ) (all : Trees) (of : List Meaning) (u : Meaning) → HasAll types s all of
+  pub nth_there : (s : Table) (i : ℕ) (all : Trees) (of : List Meaning) (u : Meaning) → HasAll types s all of
       → slice_get of i ≡ Some u → (t : Tree) × (nth_tree i all ≡ Some t) × Has types s t u
   nth_there s i no_trees [] u h is = absurd cc
   nth_there s i no_trees (w ∷ others) u h is = absurd h

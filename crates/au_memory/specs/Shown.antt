@@ -1,6 +1,6 @@
 -- Which value a tree shows in a memory, and which type a tree has.
-use Rattle.std.specs.Prelude.{◌≡◌, ℕ, true, not, is_some, List, [], ◌∷◌, Some}
-use Rattle.au_ints.specs.Ranges.{is_of_kind}
+use Rattle.std.specs.Prelude.{◌≡◌, ℕ, true, not, int_le, is_some, List, [], ◌∷◌, Some}
+use Rattle.au_ints.specs.Ranges.{least_of}
 use Rattle.au_effects.specs.Values.{Fields, content_of, no_fields, field_then, unit, truth, number, text}
 use Rattle.au_effects.specs.Values.{made, reference, box, buffer, terminal, root}
 use Rattle.au_places.specs.Memories.{Memory, held_at}
@@ -44,11 +44,12 @@ module _ (types : Types) (s : Table) (m : Memory (List ℕ)) where
 
 -- ---- types
 
--- a value that holds nothing has a type
+-- A value that holds nothing has a type. A number isn't below the least of its kind; that it is at most the
+-- greatest isn't said, since the length of a buffer has no bound.
 abbrev pub IsPlain : Value → Meaning → Type 0
 IsPlain unit type.unit = Unit {0}
 IsPlain (truth b) type.truth = Unit {0}
-IsPlain (number kind z) (type.integer other) = (kind ≡ other) × (is_of_kind kind z ≡ true)
+IsPlain (number kind z) (type.integer other) = (kind ≡ other) × (int_le (least_of kind) z ≡ true)
 IsPlain (text t) type.text = Unit {0}
 IsPlain v t = ⊥
 

@@ -45,10 +45,11 @@ use Rattle.au_rules.specs.declared.faults.DeclFault.TheVariants as rules
 use Rattle.au_rules.specs.DeclFaults.{decl_fault}
 use Rattle.au_rules.specs.Good.{AllDeclarationsAreGood}
 use Rattle.au_rules.proofs.AcceptedLemmas as declaring
-use Rattle.au_outcomes.specs.Accepted.{Accepted, AreAcceptedAs, is_behind}
+use Rattle.au_outcomes.specs.Accepted.{Accepted, AreAcceptedAs, is_behind, judges}
 use Rattle.au_outcomes.specs.Halts.{IsUnhad}
-use Rattle.au_outcomes.specs.Outcomes.{BytesCome, Comes, IsFirst}
-use Rattle.au_outcomes.specs.Programs.{AcceptedCome, ReadsCome, RunComes, bodies_outcome}
+use Rattle.au_outcomes.specs.Layouts.{LaidCome}
+use Rattle.au_outcomes.specs.Outcomes.{AskedCome, BytesCome, Comes, IsFirst}
+use Rattle.au_outcomes.specs.Programs.{AcceptedCome, CompileComes, ReadsCome, RunComes, bodies_outcome}
 use Rattle.au_outcomes.specs.Programs.{class_outcome, declaration_outcome, import_outcome, judged_by, life_outcome}
 use Rattle.au_outcomes.specs.Programs.{module_outcome, modules_outcome, program_files, program_outcome, type_outcome}
 use Rattle.au_outcomes.specs.Trees.{AreRead, FirstHalts, Halts, ReadFile}
@@ -62,7 +63,7 @@ use Rattle.au_outcomes.proofs.FetchLemmas.{few_had, files_few}
 use Rattle.au_outcomes.proofs.HaltLemmas.{are_read_same, first_halts_or_read}
 use Rattle.au_outcomes.proofs.FaultLemmas as causes
 use Rattle.au_outcomes.proofs.FaultLemmas.{judged_none, of_declarations, of_imports, of_instances, of_lives, of_modules}
-use Rattle.au_outcomes.proofs.FaultLemmas.{of_types, or_some}
+use Rattle.au_outcomes.proofs.FaultLemmas.{early_before, is_early, of_types, or_some}
 use Rattle.au_outcomes.proofs.JudgeLemmas.{bodies_good, modules_are, program_is}
 use Rattle.au_outcomes.proofs.NameLemmas.{files_same, first_or_files, many_or_few}
 use Rattle.au_outcomes.proofs.BytesLemmas.{bytes_found}
@@ -222,7 +223,7 @@ first_unhad_before files (name ∷ names) x h = elim h [
   | inr p ↦ first_unhad_before files names x p.1
 ]
 
-bodies_before : (parts : List ModuleParts) (x : Outcome) → bodies_outcome parts ≡ Some x → is_behind x ≡ false
+bodies_before : (parts : List ModuleParts) (x : Outcome) → bodies_outcome parts ≡ Some x → is_early x ≡ true
 unfolding bodies_outcome
 bodies_before parts x h = elim (or_some (judged_by class_outcome (instance_fault parts)) _ x h) [
   | inl p ↦ causes.judged_before class_outcome classes.Memory of_instances (instance_fault parts) x p
@@ -232,7 +233,7 @@ bodies_before parts x h = elim (or_some (judged_by class_outcome (instance_fault
   ]
 ]
 
-modules_before : (parts : List ModuleParts) (x : Outcome) → modules_outcome parts ≡ Some x → is_behind x ≡ false
+modules_before : (parts : List ModuleParts) (x : Outcome) → modules_outcome parts ≡ Some x → is_early x ≡ true
 unfolding modules_outcome
 modules_before parts x h = elim (or_some (judged_by import_outcome (importing.refusal_of parts)) _ x h) [
   | inl p ↦ causes.judged_before import_outcome imports.Memory of_imports (importing.refusal_of parts) x p
@@ -242,7 +243,7 @@ modules_before parts x h = elim (or_some (judged_by import_outcome (importing.re
   ]
 ]
 
-judged_before : (files : List Entry) (x : Outcome) → program_outcome files ≡ Some x → is_behind x ≡ false
+pub judged_before : (files : List Entry) (x : Outcome) → program_outcome files ≡ Some x → is_early x ≡ true
 unfolding program_outcome
 judged_before files x h = elim (or_some (judged_by module_outcome (programs.refusal_of files)) _ x h) [
   | inl p ↦ causes.judged_before module_outcome modules.Memory of_modules (programs.refusal_of files) x p
@@ -253,11 +254,17 @@ run_behind : (reads : List ReadFile) (x : Outcome) → RunComes reads x → is_b
 run_behind reads (outcome.Runs program) h = refl
 run_behind reads other h = absurd h
 
+compile_behind : (reads : List ReadFile) (x : Outcome) → CompileComes reads x → is_behind x ≡ true
+compile_behind reads (outcome.Compiles program) h = refl
+compile_behind reads other h = absurd h
+
 accepted_come_behind : (aim : Aim) (reads : List ReadFile) (x : Outcome) → AcceptedCome aim reads x
     → is_behind x ≡ true
 accepted_come_behind aims.Run reads x h = run_behind reads x h
+accepted_come_behind aims.Compile reads x h = compile_behind reads x h
 accepted_come_behind aims.Check reads x h = ap is_behind h
 accepted_come_behind aims.Explain reads x h = ap is_behind h
+accepted_come_behind aims.Format reads x h = ap is_behind h
 
 -- ---- accepted files
 
@@ -276,12 +283,29 @@ accepted_none files names all reads good =
       };
     })
 
+-- files that are judged come to what is judged
+judged_come : (aim : Aim) (all : List (List ℕ)) (reads : List ReadFile) (x : Outcome) → judges aim ≡ true
+    → ReadsCome aim reads x → AskedCome aim all reads x
+judged_come aims.Run all reads x judged h = h
+judged_come aims.Compile all reads x judged h = h
+judged_come aims.Check all reads x judged h = h
+judged_come aims.Explain all reads x judged h = h
+judged_come aims.Format all reads x judged h = absurd (let e : false ≡ true = judged in cc)
+
+come_judged : (aim : Aim) (all : List (List ℕ)) (reads : List ReadFile) (x : Outcome) → judges aim ≡ true
+    → AskedCome aim all reads x → ReadsCome aim reads x
+come_judged aims.Run all reads x judged h = h
+come_judged aims.Compile all reads x judged h = h
+come_judged aims.Check all reads x judged h = h
+come_judged aims.Explain all reads x judged h = h
+come_judged aims.Format all reads x judged h = absurd (let e : false ≡ true = judged in cc)
+
 -- they come to what is asked
 pub asked_comes : (aim : Aim) (files : Files) (names all : List (List ℕ)) (reads : List ReadFile) (x : Outcome)
-    → AreAcceptedAs files names all reads → AcceptedCome aim reads x → Comes aim files names x
-asked_comes aim files names all reads x good h =
+    → judges aim ≡ true → AreAcceptedAs files names all reads → AcceptedCome aim reads x → Comes aim files names x
+asked_comes aim files names all reads x judged good h =
     let bytes : BytesCome aim all x =
-    inr (reads, good.read, inr (accepted_none files names all reads good, h)) in
+    inr (reads, good.read, judged_come aim all reads x judged (inr (accepted_none files names all reads good, h))) in
     inr (good.few, files_few aim files names all x good.had bytes (bytes_found aim all x bytes))
 
 none_or_some : (o : Option Outcome) (x : Outcome) → o ≡ None → o ≡ Some x → ⊥
@@ -294,23 +318,24 @@ read_asked aim reads x none h = elim h [
   | inr p ↦ p.1
 ]
 
-bytes_asked : (aim : Aim) (all : List (List ℕ)) (reads : List ReadFile) (x : Outcome) → AreRead 0 all reads
-    → program_outcome (program_files reads) ≡ None → BytesCome aim all x → AcceptedCome aim reads x
-bytes_asked aim all reads x read none h = elim h [
+bytes_asked : (aim : Aim) (all : List (List ℕ)) (reads : List ReadFile) (x : Outcome) → judges aim ≡ true
+    → AreRead 0 all reads → program_outcome (program_files reads) ≡ None → BytesCome aim all x
+    → AcceptedCome aim reads x
+bytes_asked aim all reads x judged read none h = elim h [
   | inl p ↦ absurd (first_halts_or_read 0 all x reads p read)
   | inr p ↦
-      read_asked aim reads x none
-      (subst (λ rs. ReadsCome aim rs x) (are_read_same 0 all p.0 reads p.1 read) p.2)
+      read_asked aim reads x none (come_judged aim all reads x judged
+      (subst (λ rs. AskedCome aim all rs x) (are_read_same 0 all p.0 reads p.1 read) p.2))
 ]
 
 pub comes_asked : (aim : Aim) (files : Files) (names all : List (List ℕ)) (reads : List ReadFile) (x : Outcome)
-    → AreAcceptedAs files names all reads → Comes aim files names x → AcceptedCome aim reads x
-comes_asked aim files names all reads x good h = elim h [
+    → judges aim ≡ true → AreAcceptedAs files names all reads → Comes aim files names x → AcceptedCome aim reads x
+comes_asked aim files names all reads x judged good h = elim h [
   | inl p ↦ absurd (many_or_few (length names) p.0 good.few)
   | inr p ↦ elim (few_had aim files names x p.1) [
     | inl q ↦ absurd (first_or_files files names all x q good.had)
     | inr q ↦
-        bytes_asked aim all reads x good.read (accepted_none files names all reads good)
+        bytes_asked aim all reads x judged good.read (accepted_none files names all reads good)
         (subst (λ l. BytesCome aim l x) (files_same files names q.0 all q.1 good.had) q.2)
   ]
 ]
@@ -320,9 +345,21 @@ comes_asked aim files names all reads x good h = elim h [
 read_behind : (aim : Aim) (reads : List ReadFile) (x : Outcome) → ReadsCome aim reads x → is_behind x ≡ true
     → program_outcome (program_files reads) ≡ None
 read_behind aim reads x h behind = elim h [
-  | inl p ↦ never_both (is_behind x) behind (judged_before (program_files reads) x p)
+  | inl p ↦ never_both (is_behind x) behind (early_before x (judged_before (program_files reads) x p))
   | inr p ↦ p.0
 ]
+
+laid_before : (all : List (List ℕ)) (x : Outcome) → LaidCome all x → is_behind x ≡ false
+laid_before all (outcome.Laid text) h = refl
+laid_before all other h = absurd h
+
+asked_behind : (aim : Aim) (all : List (List ℕ)) (reads : List ReadFile) (x : Outcome) → AskedCome aim all reads x
+    → is_behind x ≡ true → program_outcome (program_files reads) ≡ None
+asked_behind aims.Run all reads x h behind = read_behind aims.Run reads x h behind
+asked_behind aims.Compile all reads x h behind = read_behind aims.Compile reads x h behind
+asked_behind aims.Check all reads x h behind = read_behind aims.Check reads x h behind
+asked_behind aims.Explain all reads x h behind = read_behind aims.Explain reads x h behind
+asked_behind aims.Format all reads x h behind = never_both (is_behind x) behind (laid_before all x h)
 
 -- what of such files was read
 IsReadSo : List (List ℕ) → List ReadFile → Type 0
@@ -333,7 +370,7 @@ bytes_behind : (aim : Aim) (all : List (List ℕ)) (x : Outcome) → BytesCome a
 unfolding IsReadSo
 bytes_behind aim all x h behind = elim h [
   | inl p ↦ never_both (is_behind x) behind (first_halts_before 0 all x p)
-  | inr p ↦ (p.0, (p.1, read_behind aim p.0 x p.2 behind))
+  | inr p ↦ (p.0, (p.1, asked_behind aim all p.0 x p.2 behind))
 ]
 
 pub behind_accepted : (aim : Aim) (files : Files) (names : List (List ℕ)) (x : Outcome) → Comes aim files names x
@@ -365,14 +402,40 @@ behind_accepted aim files names x h behind = elim h [
   ]
 ]
 
+-- files that come to something behind are judged
+asked_judged : (aim : Aim) (all : List (List ℕ)) (reads : List ReadFile) (x : Outcome) → AskedCome aim all reads x
+    → is_behind x ≡ true → judges aim ≡ true
+asked_judged aims.Run all reads x h behind = refl
+asked_judged aims.Compile all reads x h behind = refl
+asked_judged aims.Check all reads x h behind = refl
+asked_judged aims.Explain all reads x h behind = refl
+asked_judged aims.Format all reads x h behind = never_both (is_behind x) behind (laid_before all x h)
+
+bytes_judged : (aim : Aim) (all : List (List ℕ)) (x : Outcome) → BytesCome aim all x → is_behind x ≡ true
+    → judges aim ≡ true
+bytes_judged aim all x h behind = elim h [
+  | inl p ↦ never_both (is_behind x) behind (first_halts_before 0 all x p)
+  | inr p ↦ asked_judged aim all p.0 x p.2 behind
+]
+
+pub behind_judges : (aim : Aim) (files : Files) (names : List (List ℕ)) (x : Outcome) → Comes aim files names x
+    → is_behind x ≡ true → judges aim ≡ true
+behind_judges aim files names x h behind = elim h [
+  | inl p ↦ never_both (is_behind x) behind (ap is_behind p.1)
+  | inr p ↦ elim (few_had aim files names x p.1) [
+    | inl q ↦ never_both (is_behind x) behind (first_unhad_before files names x q)
+    | inr q ↦ bytes_judged aim q.0 x q.2 behind
+  ]
+]
+
 pub accepted_behind : (aim : Aim) (files : Files) (names : List (List ℕ)) (x : Outcome) → Comes aim files names x
-    → Accepted files names → is_behind x ≡ true
-accepted_behind aim files names x h good =
-    accepted_come_behind aim good.1 x (comes_asked aim files names good.0 good.1 x good.2 h)
+    → judges aim ≡ true → Accepted files names → is_behind x ≡ true
+accepted_behind aim files names x h judged good =
+    accepted_come_behind aim good.1 x (comes_asked aim files names good.0 good.1 x judged good.2 h)
 
 -- files of which no more is asked and that come to something behind are accepted
 pub checked_accepted : (files : Files) (names : List (List ℕ)) (x : Outcome) → Comes aims.Check files names x
     → is_behind x ≡ true → x ≡ outcome.Accepted
 checked_accepted files names x h behind =
     let good = behind_accepted aims.Check files names x h behind in
-    comes_asked aims.Check files names good.0 good.1 x good.2 h
+    comes_asked aims.Check files names good.0 good.1 x refl good.2 h

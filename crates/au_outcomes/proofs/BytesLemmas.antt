@@ -1,5 +1,7 @@
 -- The bytes of files come to one thing.
-use Rattle.std.proofs.Common.{◌≡◌, ℕ, true, List, Option, Some, None, ap, ◌∙◌, sym, refl, subst, ◌⊎◌, inl, inr}
+use Rattle.std.proofs.Common.{◌≡◌, ℕ, true, List, [], ◌∷◌, ◌++◌, Option, Some, None, ap, ap₂, ◌∙◌, sym, refl, subst}
+use Rattle.std.proofs.Common.{◌⊎◌, inl, inr}
+use Rattle.au_format.proofs.LawLemmas.{one_layout}
 use Rattle.au_classes.specs.declared.faults.ClassFault.TheVariants as classes
 use Rattle.au_classes.specs.Faults.{instance_fault}
 use Rattle.au_imports.specs.declared.faults.ImportFault.TheVariants as imports
@@ -13,8 +15,9 @@ use Rattle.au_program_lives.specs.declared.faults.LinearFault.TheVariants as liv
 use Rattle.au_program_lives.specs.LinearFaults.{linear_fault}
 use Rattle.au_rules.specs.declared.faults.DeclFault.TheVariants as rules
 use Rattle.au_rules.specs.DeclFaults.{decl_fault}
-use Rattle.au_outcomes.specs.Outcomes.{BytesCome}
-use Rattle.au_outcomes.specs.Programs.{AcceptedCome, AreOne, ReadsCome, RunComes}
+use Rattle.au_outcomes.specs.Layouts.{AreLaid, LaidCome}
+use Rattle.au_outcomes.specs.Outcomes.{AskedCome, BytesCome}
+use Rattle.au_outcomes.specs.Programs.{AcceptedCome, AreOne, CompileComes, ReadsCome, RunComes}
 use Rattle.au_outcomes.specs.Programs.{bodies_outcome, class_outcome, declaration_outcome, import_outcome, judged_by}
 use Rattle.au_outcomes.specs.Programs.{life_outcome, module_outcome, modules_outcome, program_files, program_modules}
 use Rattle.au_outcomes.specs.Programs.{program_outcome, type_outcome}
@@ -38,7 +41,9 @@ one_self (outcome.Passes limit) = refl
 one_self (outcome.Refused refusal) = refl
 one_self outcome.Accepted = refl
 one_self (outcome.Explained lives) = refl
+one_self (outcome.Laid text) = refl
 one_self (outcome.Runs program) = refl
+one_self (outcome.Compiles program) = refl
 
 pub are_one : (x y : Outcome) → x ≡ y → AreOne x y
 are_one x y same = subst (λ z. AreOne x z) same (one_self x)
@@ -58,12 +63,21 @@ run_same reads (outcome.Runs program) (outcome.Runs other) a b = a ∙ sym b
 run_same reads (outcome.Runs program) other a b = absurd b
 run_same reads other y a b = absurd a
 
+-- and what one comes to that is asked to be compiled
+compile_same : (reads : List ReadFile) (x y : Outcome) → CompileComes reads x → CompileComes reads y
+    → AreOne x y
+compile_same reads (outcome.Compiles program) (outcome.Compiles other) a b = a ∙ sym b
+compile_same reads (outcome.Compiles program) other a b = absurd b
+compile_same reads other y a b = absurd a
+
 -- what accepted files come to is one thing
 accepted_same : (aim : Aim) (reads : List ReadFile) (x y : Outcome) → AcceptedCome aim reads x
     → AcceptedCome aim reads y → AreOne x y
 accepted_same aims.Run reads x y a b = run_same reads x y a b
+accepted_same aims.Compile reads x y a b = compile_same reads x y a b
 accepted_same aims.Check reads x y a b = are_one x y (a ∙ sym b)
 accepted_same aims.Explain reads x y a b = are_one x y (a ∙ sym b)
+accepted_same aims.Format reads x y a b = are_one x y (a ∙ sym b)
 
 -- files that were read come to one thing
 reads_same : (aim : Aim) (reads : List ReadFile) (x y : Outcome) → ReadsCome aim reads x → ReadsCome aim reads y
@@ -81,6 +95,29 @@ reads_same aim reads x y a b =
       ]
     ]
 
+-- what files come to that are laid out is one thing
+layouts_same : (all : List (List ℕ)) (x y : List ℕ) → AreLaid all x → AreLaid all y → x ≡ y
+layouts_same [] x y a b = a ∙ sym b
+layouts_same (bytes ∷ all) x y a b =
+    let first : a.0 ≡ b.0 = one_layout bytes a.0 b.0 a.2 b.2 in
+    let rest : a.1 ≡ b.1 = layouts_same all a.1 b.1 a.3 b.3 in
+    a.4 ∙ ap₂ (λ one other. one ++ other) first rest ∙ sym b.4
+
+laid_same : (all : List (List ℕ)) (x y : Outcome) → LaidCome all x → LaidCome all y → AreOne x y
+laid_same all (outcome.Laid text) (outcome.Laid other) a b =
+    are_one (outcome.Laid text) (outcome.Laid other) (ap outcome.Laid (layouts_same all text other a b))
+laid_same all (outcome.Laid text) other a b = absurd b
+laid_same all other y a b = absurd a
+
+-- files that were read come to one thing, whatever is asked
+asked_same : (aim : Aim) (all : List (List ℕ)) (reads : List ReadFile) (x y : Outcome) → AskedCome aim all reads x
+    → AskedCome aim all reads y → AreOne x y
+asked_same aims.Run all reads x y a b = reads_same aims.Run reads x y a b
+asked_same aims.Compile all reads x y a b = reads_same aims.Compile reads x y a b
+asked_same aims.Check all reads x y a b = reads_same aims.Check reads x y a b
+asked_same aims.Explain all reads x y a b = reads_same aims.Explain reads x y a b
+asked_same aims.Format all reads x y a b = laid_same all x y a b
+
 -- the bytes of files come to one thing
 pub bytes_same : (aim : Aim) (all : List (List ℕ)) (x y : Outcome) → BytesCome aim all x → BytesCome aim all y
     → AreOne x y
@@ -92,8 +129,8 @@ bytes_same aim all x y a b = elim a [
   | inr p ↦ elim b [
     | inl q ↦ absurd (first_halts_or_read 0 all y p.0 q p.1)
     | inr q ↦
-        reads_same aim p.0 x y p.2
-        (subst (λ rs. ReadsCome aim rs y) (are_read_same 0 all q.0 p.0 q.1 p.1) q.2)
+        asked_same aim all p.0 x y p.2
+        (subst (λ rs. AskedCome aim all rs y) (are_read_same 0 all q.0 p.0 q.1 p.1) q.2)
   ]
 ]
 
@@ -130,11 +167,17 @@ run_found : (reads : List ReadFile) (x : Outcome) → RunComes reads x → is_of
 run_found reads (outcome.Runs program) h = refl
 run_found reads other h = absurd h
 
+compile_found : (reads : List ReadFile) (x : Outcome) → CompileComes reads x → is_of_files x ≡ true
+compile_found reads (outcome.Compiles program) h = refl
+compile_found reads other h = absurd h
+
 accepted_found : (aim : Aim) (reads : List ReadFile) (x : Outcome) → AcceptedCome aim reads x
     → is_of_files x ≡ true
 accepted_found aims.Run reads x h = run_found reads x h
+accepted_found aims.Compile reads x h = compile_found reads x h
 accepted_found aims.Check reads x h = ap is_of_files h
 accepted_found aims.Explain reads x h = ap is_of_files h
+accepted_found aims.Format reads x h = ap is_of_files h
 
 reads_found : (aim : Aim) (reads : List ReadFile) (x : Outcome) → ReadsCome aim reads x → is_of_files x ≡ true
 reads_found aim reads x h = elim h [
@@ -142,8 +185,20 @@ reads_found aim reads x h = elim h [
   | inr p ↦ accepted_found aim reads x p.1
 ]
 
+laid_found : (all : List (List ℕ)) (x : Outcome) → LaidCome all x → is_of_files x ≡ true
+laid_found all (outcome.Laid text) h = refl
+laid_found all other h = absurd h
+
+asked_found : (aim : Aim) (all : List (List ℕ)) (reads : List ReadFile) (x : Outcome) → AskedCome aim all reads x
+    → is_of_files x ≡ true
+asked_found aims.Run all reads x h = reads_found aims.Run reads x h
+asked_found aims.Compile all reads x h = reads_found aims.Compile reads x h
+asked_found aims.Check all reads x h = reads_found aims.Check reads x h
+asked_found aims.Explain all reads x h = reads_found aims.Explain reads x h
+asked_found aims.Format all reads x h = laid_found all x h
+
 pub bytes_found : (aim : Aim) (all : List (List ℕ)) (x : Outcome) → BytesCome aim all x → is_of_files x ≡ true
 bytes_found aim all x h = elim h [
   | inl p ↦ first_found 0 all x p
-  | inr p ↦ reads_found aim p.0 x p.2
+  | inr p ↦ asked_found aim all p.0 x p.2
 ]

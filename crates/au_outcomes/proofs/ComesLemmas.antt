@@ -7,13 +7,15 @@ use Rattle.au_base.specs.Outside.{Files, Counts}
 use Rattle.au_base.specs.Places.{place_after}
 use Rattle.au_lexer.specs.Cut.{Cut}
 use Rattle.au_lexer.specs.Passing.{IsWithinLimits}
+use Rattle.au_outcomes.specs.Accepted.{judges}
 use Rattle.au_outcomes.specs.Halts.{AreFilesOf, ComesTo, FirstUnhad, Says, is_missing, is_read_halt}
-use Rattle.au_outcomes.specs.Outcomes.{BytesCome, files_limit, most_files}
+use Rattle.au_outcomes.specs.Outcomes.{BytesCome, JudgedCome, files_limit, most_files}
 use Rattle.au_outcomes.specs.Reading.{TokensHalt}
 use Rattle.au_outcomes.specs.Trees.{Halts}
 use Rattle.au_outcomes.specs.declared.halts.Halt.{Halt}
 use Rattle.au_outcomes.specs.declared.halts.Halt.TheVariants as halt
 use Rattle.au_outcomes.specs.declared.outcomes.Aim.{Aim}
+use Rattle.au_outcomes.specs.declared.outcomes.Aim.TheVariants as aims
 use Rattle.au_outcomes.specs.declared.outcomes.Outcome.{Outcome}
 use Rattle.au_outcomes.specs.declared.outcomes.Outcome.TheVariants as outcome
 use Rattle.au_outcomes.proofs.FetchLemmas.{files_few, told_files, unhad_few}
@@ -37,6 +39,33 @@ halts_with (halt.Unknown e) G H K L known h = tt
 pub read_with : (T U : Type 0) (e : Halt) → is_read_halt {T = T} (Err e) ≡ true → is_read_halt {T = U} (Err e) ≡ true
 read_with T U (halt.Known arisen) h = cc
 read_with T U (halt.Unknown e) h = h
+
+-- files that are judged come to what is asked
+judged_come : (aim : Aim) (all : List (List ℕ)) (x : Outcome) → judges aim ≡ true → JudgedCome aim all x
+    → BytesCome aim all x
+judged_come aims.Run all x judged h = h
+judged_come aims.Compile all x judged h = h
+judged_come aims.Check all x judged h = h
+judged_come aims.Explain all x judged h = h
+judged_come aims.Format all x judged h = absurd (let e : false ≡ true = judged in cc)
+
+pub judged_says : (aim : Aim) (all : List (List ℕ)) (r : Result Outcome Halt) → judges aim ≡ true
+    → Says r (JudgedCome aim all) (JudgedCome aim all) → Says r (BytesCome aim all) (BytesCome aim all)
+judged_says aim all r judged h =
+    says_map r (JudgedCome aim all) (BytesCome aim all) (JudgedCome aim all) (BytesCome aim all)
+    (λ x. judged_come aim all x judged) (λ x. judged_come aim all x judged) h
+
+-- and those that aren't are laid out
+not_judged : (aim : Aim) → judges aim ≡ false → aims.Format ≡ aim
+not_judged aims.Run h = absurd (let e : true ≡ false = h in cc)
+not_judged aims.Compile h = absurd (let e : true ≡ false = h in cc)
+not_judged aims.Check h = absurd (let e : true ≡ false = h in cc)
+not_judged aims.Explain h = absurd (let e : true ≡ false = h in cc)
+not_judged aims.Format h = refl
+
+pub laid_says : (aim : Aim) (all : List (List ℕ)) (r : Result Outcome Halt) → judges aim ≡ false
+    → Says r (BytesCome aims.Format all) (BytesCome aims.Format all) → Says r (BytesCome aim all) (BytesCome aim all)
+laid_says aim all r other h = subst (λ a. Says r (BytesCome a all) (BytesCome a all)) (not_judged aim other) h
 
 -- ---- one file
 

@@ -1,5 +1,5 @@
 -- What the faults of the steps that judge a program come to.
-use Rattle.std.proofs.Common.{◌≡◌, true, false, Option, Some, None, Err, ap, ◌∙◌, refl, sym, subst, ◌⊎◌, inl, inr}
+use Rattle.std.proofs.Common.{◌≡◌, Bool, true, false, Option, Some, None, Err, ap, ◌∙◌, refl, sym, subst, ◌⊎◌, inl, inr}
 use Rattle.std.specs.Option.{option_or}
 use Rattle.au_classes.specs.declared.faults.ClassFault.TheVariants as classes
 use Rattle.au_imports.specs.declared.faults.ImportFault.TheVariants as imports
@@ -12,6 +12,7 @@ use Rattle.au_outcomes.specs.Halts.{Says, is_read_halt, known_or_memory}
 use Rattle.au_outcomes.specs.Programs.{class_outcome, declaration_outcome, import_outcome, judged_by, life_outcome}
 use Rattle.au_outcomes.specs.Programs.{module_outcome, type_outcome}
 use Rattle.au_outcomes.specs.declared.outcomes.Outcome.{Outcome}
+use Rattle.au_outcomes.specs.declared.outcomes.Outcome.TheVariants as outcome
 use Rattle.au_outcomes.proofs.HaltLemmas.{is_of_files}
 
 -- ---- one of two, or neither
@@ -20,6 +21,23 @@ pub or_some : {A : Type 0} (o p : Option A) (x : A) → option_or o p ≡ Some x
 or_some None p x h = inr h
 or_some (Some y) p x h = inl h
 
+-- whether an outcome is a refusal or a limit that is passed
+abbrev pub is_early : Outcome → Bool
+is_early (outcome.Passes limit) = true
+is_early (outcome.Refused refusal) = true
+is_early other = false
+
+pub early_before : (x : Outcome) → is_early x ≡ true → is_behind x ≡ false
+early_before (outcome.Passes limit) h = refl
+early_before (outcome.Refused refusal) h = refl
+early_before outcome.NoJob h = refl
+early_before (outcome.Missing name) h = refl
+early_before outcome.Accepted h = absurd (let e : false ≡ true = h in cc)
+early_before (outcome.Explained lives) h = absurd (let e : false ≡ true = h in cc)
+early_before (outcome.Laid text) h = refl
+early_before (outcome.Runs program) h = absurd (let e : false ≡ true = h in cc)
+early_before (outcome.Compiles program) h = absurd (let e : false ≡ true = h in cc)
+
 -- ---- what a kind of faults comes to
 
 -- Only want of memory is no cause, and what any other fault comes to is a cause of the files, told before it is seen
@@ -27,11 +45,11 @@ or_some (Some y) p x h = inl h
 pub record AreCauses {F : Type 0} (outcome_of : F → Option Outcome) (memory : F) : Type 0 where
   pub unknown : outcome_of memory ≡ None
   pub only : (e : F) → outcome_of e ≡ None → e ≡ memory
-  pub before : (e : F) (x : Outcome) → outcome_of e ≡ Some x → is_behind x ≡ false
+  pub before : (e : F) (x : Outcome) → outcome_of e ≡ Some x → is_early x ≡ true
   pub found : (e : F) (x : Outcome) → outcome_of e ≡ Some x → is_of_files x ≡ true
 
-before_as : (o x : Outcome) → is_behind o ≡ false → Some o ≡ Some x → is_behind x ≡ false
-before_as o x h e = let same : o ≡ x = cc in subst (λ z. is_behind z ≡ false) same h
+before_as : (o x : Outcome) → is_early o ≡ true → Some o ≡ Some x → is_early x ≡ true
+before_as o x h e = let same : o ≡ x = cc in subst (λ z. is_early z ≡ true) same h
 
 found_as : (o x : Outcome) → is_of_files o ≡ true → Some o ≡ Some x → is_of_files x ≡ true
 found_as o x h e = let same : o ≡ x = cc in subst (λ z. is_of_files z ≡ true) same h
@@ -46,7 +64,7 @@ of_modules = record { unknown = refl; only = only; before = before; found = foun
     only (modules.Limit limit) h = cc
     only modules.Memory h = refl
 
-    before : (e : _) (x : Outcome) → module_outcome e ≡ Some x → is_behind x ≡ false
+    before : (e : _) (x : Outcome) → module_outcome e ≡ Some x → is_early x ≡ true
     before (modules.TwiceGiven name) x h = before_as _ x refl h
     before (modules.NoBody name) x h = before_as _ x refl h
     before (modules.Unsafe at) x h = before_as _ x refl h
@@ -72,7 +90,7 @@ of_imports = record { unknown = refl; only = only; before = before; found = foun
     only (imports.Differs at other name) h = cc
     only imports.Memory h = refl
 
-    before : (e : _) (x : Outcome) → import_outcome e ≡ Some x → is_behind x ≡ false
+    before : (e : _) (x : Outcome) → import_outcome e ≡ Some x → is_early x ≡ true
     before (imports.NoModule at name) x h = before_as _ x refl h
     before (imports.Late at name) x h = before_as _ x refl h
     before (imports.NotVisible at name) x h = before_as _ x refl h
@@ -101,7 +119,7 @@ of_declarations = record { unknown = refl; only = only; before = before; found =
     only (rules.Infinite at) h = cc
     only rules.Memory h = refl
 
-    before : (e : _) (x : Outcome) → declaration_outcome e ≡ Some x → is_behind x ≡ false
+    before : (e : _) (x : Outcome) → declaration_outcome e ≡ Some x → is_early x ≡ true
     before (rules.Again at name) x h = before_as _ x refl h
     before (rules.Malformed at) x h = before_as _ x refl h
     before (rules.EmptyUnion at) x h = before_as _ x refl h
@@ -127,7 +145,7 @@ of_instances = record { unknown = refl; only = only; before = before; found = fo
     only (classes.MethodDiffers at) h = cc
     only classes.Memory h = refl
 
-    before : (e : _) (x : Outcome) → class_outcome e ≡ Some x → is_behind x ≡ false
+    before : (e : _) (x : Outcome) → class_outcome e ≡ Some x → is_early x ≡ true
     before (classes.BadHead at) x h = before_as _ x refl h
     before (classes.Orphan at) x h = before_as _ x refl h
     before (classes.Overlap at other) x h = before_as _ x refl h
@@ -149,7 +167,7 @@ of_types = record { unknown = refl; only = only; before = before; found = found 
     only (typing.Limit limit) h = cc
     only typing.Memory h = refl
 
-    before : (e : _) (x : Outcome) → type_outcome e ≡ Some x → is_behind x ≡ false
+    before : (e : _) (x : Outcome) → type_outcome e ≡ Some x → is_early x ≡ true
     before (typing.Statement at why) x h = before_as _ x refl h
     before (typing.Limit limit) x h = before_as _ x refl h
     before typing.Memory x h = cc
@@ -168,7 +186,7 @@ of_lives = record { unknown = refl; only = only; before = before; found = found 
     only (lives.InPart variable at) h = cc
     only lives.Memory h = refl
 
-    before : (e : _) (x : Outcome) → life_outcome e ≡ Some x → is_behind x ≡ false
+    before : (e : _) (x : Outcome) → life_outcome e ≡ Some x → is_early x ≡ true
     before (lives.Life function variable at kind path) x h = before_as _ x refl h
     before (lives.InLoop variable at) x h = before_as _ x refl h
     before (lives.InPart variable at) x h = before_as _ x refl h
@@ -192,7 +210,7 @@ module _ {F : Type 0} (outcome_of : F → Option Outcome) (memory : F) (causes :
   judged_none None unwanted h = refl
   judged_none (Some e) unwanted h = absurd (unwanted (ap Some (causes.only e h)))
 
-  pub judged_before : (r : Option F) (x : Outcome) → judged_by outcome_of r ≡ Some x → is_behind x ≡ false
+  pub judged_before : (r : Option F) (x : Outcome) → judged_by outcome_of r ≡ Some x → is_early x ≡ true
   judged_before None x h = cc
   judged_before (Some e) x h = causes.before e x h
 

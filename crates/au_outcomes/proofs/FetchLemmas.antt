@@ -60,7 +60,9 @@ module _ (aim : Aim) (files : Files) (names : List (List ℕ)) where
   few_had (outcome.Refused refusal) h = inr h
   few_had outcome.Accepted h = inr h
   few_had (outcome.Explained lives) h = inr h
+  few_had (outcome.Laid text) h = inr h
   few_had (outcome.Runs program) h = inr h
+  few_had (outcome.Compiles program) h = inr h
 
   pub unhad_few : (x : Outcome) → IsFirst (λ one. IsUnhad files one x) files names → FewCome aim files names x
   unhad_few outcome.NoJob h = absurd (first_any (λ one. IsUnhad files one outcome.NoJob) files names h).1
@@ -73,8 +75,12 @@ module _ (aim : Aim) (files : Files) (names : List (List ℕ)) where
   unhad_few outcome.Accepted h = absurd (first_any (λ one. IsUnhad files one outcome.Accepted) files names h).1
   unhad_few (outcome.Explained lives) h =
       absurd (first_any (λ one. IsUnhad files one (outcome.Explained lives)) files names h).1
+  unhad_few (outcome.Laid text) h =
+      absurd (first_any (λ one. IsUnhad files one (outcome.Laid text)) files names h).1
   unhad_few (outcome.Runs program) h =
       absurd (first_any (λ one. IsUnhad files one (outcome.Runs program)) files names h).1
+  unhad_few (outcome.Compiles program) h =
+      absurd (first_any (λ one. IsUnhad files one (outcome.Compiles program)) files names h).1
 
   -- what files come to that can be had
   pub files_few : (all : List (List ℕ)) (x : Outcome) → AreFiles files names all → BytesCome aim all x
@@ -85,7 +91,9 @@ module _ (aim : Aim) (files : Files) (names : List (List ℕ)) where
   files_few all (outcome.Refused refusal) are h proper = (all, are, h)
   files_few all outcome.Accepted are h proper = (all, are, h)
   files_few all (outcome.Explained lives) are h proper = (all, are, h)
+  files_few all (outcome.Laid text) are h proper = (all, are, h)
   files_few all (outcome.Runs program) are h proper = (all, are, h)
+  files_few all (outcome.Compiles program) are h proper = (all, are, h)
 
 -- a file behind those that can be had
 is_first : (P : List ℕ → Type 0) (files : Files) (before all : List (List ℕ)) (name : List ℕ)

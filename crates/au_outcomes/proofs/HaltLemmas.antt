@@ -5,6 +5,8 @@ use Rattle.au_base.specs.declared.limits.Limit.{Limit}
 use Rattle.au_base.specs.declared.places.Pos.{Pos}
 use Rattle.au_base.specs.declared.tokens.Token.{Token}
 use Rattle.au_base.specs.Places.{place_after}
+use Rattle.au_fault_places.specs.Fronts.{IsFaultPlace}
+use Rattle.au_fault_places.proofs.Places.{place_told, syntax_place}
 use Rattle.au_lexer.specs.Cut.{Cut, Lexed, tokens, stray, passes, Lexes}
 use Rattle.au_lexer.specs.Passing.{IsWithinLimits}
 use Rattle.au_lexer.proofs.UniqueLemmas.{one_cut, one_outcome}
@@ -19,7 +21,7 @@ use Rattle.au_syntax.specs.Words.{Spells}
 use Rattle.au_outcomes.specs.Halts.{is_missing}
 use Rattle.au_outcomes.specs.Reading.{TokensHalt}
 use Rattle.au_outcomes.specs.Trees.{AreRead, FirstHalts, Halts, HasNoTree, HasTokens, HasTree, IsRead}
-use Rattle.au_outcomes.specs.Trees.{ReadFile, place_or}
+use Rattle.au_outcomes.specs.Trees.{IsPlaceIn, MeetsNoLimit, ReadFile, place_or}
 use Rattle.au_outcomes.specs.declared.outcomes.Outcome.{Outcome}
 use Rattle.au_outcomes.specs.declared.outcomes.Outcome.TheVariants as outcome
 use Rattle.au_outcomes.specs.Refusals.{is_refusal}
@@ -55,10 +57,34 @@ abbrev fault_outcome : List Token → Pos → Fault → Outcome
 fault_outcome list end (reading.Syntax left) = outcome.Refused (Syntax (place_or end list (length list - left)))
 fault_outcome list end (reading.Passed limit left) = outcome.Passes limit
 
+-- a limit is no fault
+no_limit : (limit : Limit) (n left : ℕ) → ◌≡◌ {A = Read PlainModule} (Err (reading.Passed limit n)) (Err (reading.Syntax left))
+    → ⊥
+no_limit limit n left e = cc
+
 -- tokens that have no tree within the limits come to the fault of the reader
 abbrev IsFaultOutcome : List Token → Pos → Outcome → Type 0
 IsFaultOutcome list end arisen = (HasTree list → ⊥)
     × ((f : Fault) × (file_at usual list ≡ Err f) × (arisen ≡ fault_outcome list end f))
+
+-- where reading meets no limit, it stops at the place of the fault
+stops_there : (list : List Token) (place : ℕ) → IsFaultPlace list place → MeetsNoLimit list →
+    file_at usual list ≡ Err (reading.Syntax (length list - place))
+stops_there list place p none =
+    elim (place_told usual list place p) [ inl e ↦ e | inr w ↦ absurd (none w.0 w.1 w.2) ]
+
+there_again : (list : List Token) (place : ℕ) → IsFaultPlace list place → place ≡ length list - (length list - place)
+there_again list place p = let h = p.within in omega (arith, h)
+
+-- what reading stops at is the place of the fault
+pub place_found : (list : List Token) (end at : Pos) (left index : ℕ) → file_at usual list ≡ Err (reading.Syntax left) →
+    index ≡ length list - left → at ≡ place_or end list index → IsPlaceIn list end at
+place_found list end at left index e is there = (
+  length list - left,
+  syntax_place usual list left e,
+  λ limit n d. no_limit limit n left (sym d ∙ e),
+  there ∙ ap (place_or end list) is,
+)
 
 fault_of : (list : List Token) (end : Pos) (arisen : Outcome) → TokensHalt list end arisen →
     IsFaultOutcome list end arisen
@@ -68,7 +94,11 @@ fault_of list end (outcome.Passes limit) h = (
 )
 fault_of list end (outcome.Refused (Syntax at)) h = (
   λ tree. h.0 tree.0 tree.1 tree.2,
-  (reading.Syntax h.1.0, h.1.1, ap (λ p. outcome.Refused (Syntax p)) h.1.2),
+  (
+    reading.Syntax (length list - h.1.0),
+    stops_there list h.1.0 h.1.1 h.1.2,
+    ap (λ p. outcome.Refused (Syntax p)) (h.1.3 ∙ ap (place_or end list) (there_again list h.1.0 h.1.1)),
+  ),
 )
 fault_of list end other h = absurd h
 
@@ -198,7 +228,9 @@ is_halt file bytes outcome.NoJob h = absurd h
 is_halt file bytes (outcome.Missing name) h = absurd h
 is_halt file bytes outcome.Accepted h = absurd h
 is_halt file bytes (outcome.Explained lives) h = absurd h
+is_halt file bytes (outcome.Laid text) h = absurd h
 is_halt file bytes (outcome.Runs program) h = absurd h
+is_halt file bytes (outcome.Compiles program) h = absurd h
 
 pub first_halt : (file : ℕ) (all : List (List ℕ)) (x : Outcome) → FirstHalts file all x → IsHalt x
 first_halt file [] x h = absurd h
@@ -215,7 +247,9 @@ is_of_files (outcome.Passes limit) = true
 is_of_files (outcome.Refused refusal) = is_refusal refusal
 is_of_files outcome.Accepted = true
 is_of_files (outcome.Explained lives) = true
+is_of_files (outcome.Laid text) = true
 is_of_files (outcome.Runs program) = true
+is_of_files (outcome.Compiles program) = true
 
 pub not_missing : (x : Outcome) → is_of_files x ≡ true → is_missing x ≡ false
 not_missing outcome.NoJob h = refl
@@ -224,7 +258,9 @@ not_missing (outcome.Passes limit) h = refl
 not_missing (outcome.Refused refusal) h = refl
 not_missing outcome.Accepted h = refl
 not_missing (outcome.Explained lives) h = refl
+not_missing (outcome.Laid text) h = refl
 not_missing (outcome.Runs program) h = refl
+not_missing (outcome.Compiles program) h = refl
 
 halt_found : (file : ℕ) (bytes : List ℕ) (x : Outcome) → Halts file bytes x → is_of_files x ≡ true
 halt_found file bytes (outcome.Passes limit) h = refl

@@ -20,7 +20,7 @@ abbrev pub HaltOn : List (Vec ℕ Global) → ℕ → Type 0
 HaltOn all i = (x : Outcome) → FirstHalts i (map bytes_in (drop i all)) x → FirstHalts 0 (map bytes_in all) x
 
 -- the file at an index, and those behind it
-bytes_at : (all : List (Vec ℕ Global)) (i : ℕ) (bytes : Vec ℕ Global) → i < length all →
+pub bytes_at : (all : List (Vec ℕ Global)) (i : ℕ) (bytes : Vec ℕ Global) → i < length all →
     bytes ≡ get_or all i bytes → map bytes_in (drop i all) ≡ bytes.items ∷ map bytes_in (drop (i + 1) all)
 bytes_at all i bytes h is =
     ap (map bytes_in) (drop_more all i bytes h)

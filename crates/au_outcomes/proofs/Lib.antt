@@ -9,3 +9,4 @@ pub mod JudgeLemmas
 pub mod ComesLemmas
 pub mod CountLemmas
 pub mod AcceptedLemmas
+pub mod LaidLemmas

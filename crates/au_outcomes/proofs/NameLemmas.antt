@@ -128,7 +128,9 @@ few_outcome aim files names (outcome.Passes limit) h = refl
 few_outcome aim files names (outcome.Refused refusal) h = bytes_found aim h.0 (outcome.Refused refusal) h.2
 few_outcome aim files names outcome.Accepted h = refl
 few_outcome aim files names (outcome.Explained lives) h = refl
+few_outcome aim files names (outcome.Laid text) h = refl
 few_outcome aim files names (outcome.Runs program) h = refl
+few_outcome aim files names (outcome.Compiles program) h = refl
 
 pub comes_outcome : (aim : Aim) (files : Files) (names : List (List ℕ)) (x : Outcome) → Comes aim files names x
     → is_outcome x ≡ true

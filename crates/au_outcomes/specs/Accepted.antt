@@ -13,6 +13,8 @@ use Rattle.au_rules.specs.Good.{AllDeclarationsAreGood}
 use Rattle.au_outcomes.specs.Outcomes.{AreFiles, most_files}
 use Rattle.au_outcomes.specs.Programs.{program_files, program_modules}
 use Rattle.au_outcomes.specs.Trees.{AreRead, ReadFile}
+use Rattle.au_outcomes.specs.declared.outcomes.Aim.{Aim}
+use Rattle.au_outcomes.specs.declared.outcomes.Aim.TheVariants as aims
 use Rattle.au_outcomes.specs.declared.outcomes.Outcome.{Outcome}
 use Rattle.au_outcomes.specs.declared.outcomes.Outcome.TheVariants as outcome
 
@@ -38,8 +40,16 @@ pub record AreAcceptedAs (files : Files) (names all : List (List ℕ)) (reads : 
 abbrev pub Accepted : Files → List (List ℕ) → Type 0
 Accepted files names = (all : List (List ℕ)) × (reads : List ReadFile) × AreAcceptedAs files names all reads
 
+-- whether files of which this is asked are judged as those of a program: they aren't where they are laid out
+abbrev pub judges : Aim → Bool
+judges aims.Run = true
+judges aims.Compile = true
+judges aims.Check = true
+judges aims.Explain = true
+judges aims.Format = false
+
 -- whether files come to this behind the steps that judge whether they are accepted: that is told, or the
--- lives of its variables are, or the program is to run
+-- lives of its variables are, or the program is to run or to be compiled
 abbrev pub is_behind : Outcome → Bool
 is_behind outcome.NoJob = false
 is_behind (outcome.Missing name) = false
@@ -47,4 +57,6 @@ is_behind (outcome.Passes limit) = false
 is_behind (outcome.Refused refusal) = false
 is_behind outcome.Accepted = true
 is_behind (outcome.Explained lives) = true
+is_behind (outcome.Laid text) = false
 is_behind (outcome.Runs program) = true
+is_behind (outcome.Compiles program) = true

@@ -36,7 +36,9 @@ is_missing (outcome.Passes limit) = false
 is_missing (outcome.Refused refusal) = false
 is_missing outcome.Accepted = false
 is_missing (outcome.Explained lives) = false
+is_missing (outcome.Laid text) = false
 is_missing (outcome.Runs program) = false
+is_missing (outcome.Compiles program) = false
 
 -- The program of files of these names, of those that are told, comes to this where this is asked of it.
 abbrev pub ComesTo : Aim → Option Files → List (List ℕ) → Outcome → Type 0
@@ -84,7 +86,9 @@ IsUnhad files name outcome.NoJob = ⊥
 IsUnhad files name (outcome.Refused refusal) = ⊥
 IsUnhad files name outcome.Accepted = ⊥
 IsUnhad files name (outcome.Explained lives) = ⊥
+IsUnhad files name (outcome.Laid text) = ⊥
 IsUnhad files name (outcome.Runs program) = ⊥
+IsUnhad files name (outcome.Compiles program) = ⊥
 
 -- The first of the files of these names that can't be had, of those that are told, can't be had for this.
 abbrev pub FirstUnhad : Option Files → List (List ℕ) → Outcome → Type 0

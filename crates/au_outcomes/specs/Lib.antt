@@ -2,6 +2,7 @@ pub use Rattle.au_explain.specs.Faults
 pub mod Refusals
 pub mod Lines
 pub mod Trees
+pub mod Layouts
 pub mod Programs
 pub mod Outcomes
 pub mod Halts

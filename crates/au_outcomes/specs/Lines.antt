@@ -17,12 +17,10 @@ use Rattle.au_sights.specs.Lines.{why_text}
 use Rattle.au_program_lives.specs.declared.faults.LinearFault.{LinearFault}
 use Rattle.au_program_lives.specs.declared.faults.LinearFault.TheVariants as lives
 use Rattle.au_program_lives.specs.Lines.{linear_text}
-use Rattle.au_outcomes.specs.declared.refusals.Unbuilt.{Unbuilt}
-use Rattle.au_outcomes.specs.declared.refusals.Unbuilt.TheVariants as unbuilt
 use Rattle.au_rules.specs.declared.faults.DeclFault.{DeclFault}
 use Rattle.au_rules.specs.declared.faults.DeclFault.TheVariants as rules
 use Rattle.au_outcomes.specs.declared.refusals.Refusal.{Refusal}
-use Rattle.au_outcomes.specs.declared.refusals.Refusal.TheVariants.{Byte, Syntax, WordNotYet}
+use Rattle.au_outcomes.specs.declared.refusals.Refusal.TheVariants.{Byte, Syntax}
 use Rattle.au_outcomes.specs.declared.refusals.Refusal.TheVariants.{Pair, Import, Declaration, Instance}
 use Rattle.au_outcomes.specs.declared.refusals.Refusal.TheVariants.{Typing, Linear, Entry, Stuck}
 
@@ -32,7 +30,7 @@ line text = text ++ 10 ∷ []
 
 -- the line where the words are no job
 abbrev pub words_line : List ℕ
-words_line = line (codes "words: run [--entry=M:f] [--steps=N] [--life] PART.. | compile [--entry=M:f] PART.. | explain PART.. | check PART..")
+words_line = line (codes "words: run [--entry=M:f] [--steps=N] [--life] PART.. | compile [--entry=M:f] PART.. | explain PART.. | check PART.. | format FILE")
 
 -- the line where no file has the name
 abbrev pub missing_line : List ℕ → List ℕ
@@ -82,10 +80,6 @@ steps_line steps = line (codes "steps: " ++ decimal steps ++ codes " spent")
 abbrev pub place_text : List (List ℕ) → Pos → List ℕ
 place_text names at =
     unwrap_or (slice_get names at.file) [] ++ codes ":" ++ decimal at.line ++ codes ":" ++ decimal at.column
-
--- the word for what isn't built yet, as its line says it
-abbrev pub unbuilt_word : Unbuilt → List ℕ
-unbuilt_word unbuilt.Compile = codes "compile"
 
 -- why files are not those of modules; a fault that is no refusal has no text
 abbrev pub pair_text : List (List ℕ) → ModuleFault → List ℕ
@@ -153,7 +147,6 @@ stuck_text = codes "stuck"
 abbrev pub refusal_text : List (List ℕ) → Refusal → List ℕ
 refusal_text names (Byte at) = place_text names at ++ codes ": byte"
 refusal_text names (Syntax at) = place_text names at ++ codes ": syntax"
-refusal_text names (WordNotYet what) = codes "not yet: " ++ unbuilt_word what
 refusal_text names (Pair fault) = pair_text names fault
 refusal_text names (Import fault) = import_text names fault
 refusal_text names (Declaration fault) = declaration_text names fault

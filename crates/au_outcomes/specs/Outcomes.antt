@@ -5,9 +5,11 @@ use Rattle.au_base.specs.declared.limits.LimitKind.TheVariants as kind
 use Rattle.au_base.specs.Limits.{most_file_bytes}
 use Rattle.au_base.specs.Outside.{Files}
 use Rattle.au_outcomes.specs.Refusals.{is_refusal}
+use Rattle.au_outcomes.specs.Layouts.{AreLaid, LaidCome}
 use Rattle.au_outcomes.specs.Programs.{ReadsCome}
 use Rattle.au_outcomes.specs.Trees.{AreRead, FirstHalts, ReadFile}
 use Rattle.au_outcomes.specs.declared.outcomes.Aim.{Aim}
+use Rattle.au_outcomes.specs.declared.outcomes.Aim.TheVariants as aims
 use Rattle.au_outcomes.specs.declared.outcomes.Outcome.{Outcome}
 use Rattle.au_outcomes.specs.declared.outcomes.Outcome.TheVariants as outcome
 
@@ -19,7 +21,9 @@ is_outcome (outcome.Passes limit) = true
 is_outcome (outcome.Refused refusal) = is_refusal refusal
 is_outcome outcome.Accepted = true
 is_outcome (outcome.Explained lives) = true
+is_outcome (outcome.Laid text) = true
 is_outcome (outcome.Runs program) = true
+is_outcome (outcome.Compiles program) = true
 
 -- the limit of a file's bytes, with the one count that passes it
 abbrev pub file_limit : Limit
@@ -54,11 +58,26 @@ most_files = 128
 abbrev pub files_limit : ℕ → Limit
 files_limit count = record { kind = kind.Files; count = count; most = most_files }
 
+-- What a program comes to that is judged, by the bytes of its files: the first file that can't be read counts, and
+-- where each is read, what the modules come to.
+abbrev pub JudgedCome : Aim → List (List ℕ) → Outcome → Type 0
+JudgedCome aim all arisen =
+    FirstHalts 0 all arisen ⊎ ((reads : List ReadFile) × AreRead 0 all reads × ReadsCome aim reads arisen)
+
+-- What files with these bytes, that were read so, come to by what is asked: they are laid out, or they are
+-- judged as the files of a program.
+abbrev pub AskedCome : Aim → List (List ℕ) → List ReadFile → Outcome → Type 0
+AskedCome aims.Run all reads arisen = ReadsCome aims.Run reads arisen
+AskedCome aims.Compile all reads arisen = ReadsCome aims.Compile reads arisen
+AskedCome aims.Check all reads arisen = ReadsCome aims.Check reads arisen
+AskedCome aims.Explain all reads arisen = ReadsCome aims.Explain reads arisen
+AskedCome aims.Format all reads arisen = LaidCome all arisen
+
 -- What a program comes to of which this is asked, by the bytes of its files: the first file that can't be
 -- read counts, and where each is read, what is read.
 abbrev pub BytesCome : Aim → List (List ℕ) → Outcome → Type 0
 BytesCome aim all arisen =
-    FirstHalts 0 all arisen ⊎ ((reads : List ReadFile) × AreRead 0 all reads × ReadsCome aim reads arisen)
+    FirstHalts 0 all arisen ⊎ ((reads : List ReadFile) × AreRead 0 all reads × AskedCome aim all reads arisen)
 
 -- The files of these names can be had, and come to this.
 abbrev pub FilesCome : Aim → Files → List (List ℕ) → Outcome → Type 0
@@ -76,10 +95,19 @@ FewCome aim files names (outcome.Passes limit) =
 FewCome aim files names (outcome.Refused refusal) = FilesCome aim files names (outcome.Refused refusal)
 FewCome aim files names outcome.Accepted = FilesCome aim files names outcome.Accepted
 FewCome aim files names (outcome.Explained lives) = FilesCome aim files names (outcome.Explained lives)
+FewCome aim files names (outcome.Laid text) = FilesCome aim files names (outcome.Laid text)
 FewCome aim files names (outcome.Runs program) = FilesCome aim files names (outcome.Runs program)
+FewCome aim files names (outcome.Compiles program) = FilesCome aim files names (outcome.Compiles program)
 
 -- What a program comes to of which this is asked, by the names of its files.
 abbrev pub Comes : Aim → Files → List (List ℕ) → Outcome → Type 0
 Comes aim files names arisen =
     ((most_files < length names) × (arisen ≡ outcome.Passes (files_limit (length names))))
     ⊎ ((length names ≤ most_files) × FewCome aim files names arisen)
+
+-- Files of these names can be had and are as few as they may be, each is cut into tokens that are the words of
+-- its tree, within the limits, and their layouts are this text.
+abbrev pub HasLayout : Files → List (List ℕ) → List ℕ → Type 0
+HasLayout files names text =
+    (length names ≤ most_files) × (all : List (List ℕ)) × AreFiles files names all
+    × ((reads : List ReadFile) × AreRead 0 all reads) × AreLaid all text

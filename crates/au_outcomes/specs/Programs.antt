@@ -112,6 +112,11 @@ abbrev pub RunComes : List ReadFile → Outcome → Type 0
 RunComes reads (outcome.Runs program) = slots.modules program ≡ program_modules reads
 RunComes reads other = ⊥
 
+-- What one comes to that is asked to be compiled: it is to be compiled.
+abbrev pub CompileComes : List ReadFile → Outcome → Type 0
+CompileComes reads (outcome.Compiles program) = slots.modules program ≡ program_modules reads
+CompileComes reads other = ⊥
+
 -- Nothing is refused of files, and these are their modules.
 abbrev pub AreJudgedAs : List Entry → List ModuleParts → Type 0
 AreJudgedAs files parts = (program_outcome files ≡ None) × (parts ≡ modules_of files)
@@ -121,11 +126,14 @@ abbrev pub read_lives : List ReadFile → Lives
 read_lives reads = program_lives (program_modules reads)
 
 -- What accepted files come to: where no more is asked they are accepted, where they are explained they come
--- to the lives of their variables, and where their program is to run that is what they come to.
+-- to the lives of their variables, and where their program is to run or to be compiled that is what they come
+-- to. (Of files that are laid out it isn't asked whether they are accepted.)
 abbrev pub AcceptedCome : Aim → List ReadFile → Outcome → Type 0
 AcceptedCome aims.Run reads arisen = RunComes reads arisen
+AcceptedCome aims.Compile reads arisen = CompileComes reads arisen
 AcceptedCome aims.Check reads arisen = arisen ≡ outcome.Accepted
 AcceptedCome aims.Explain reads arisen = arisen ≡ outcome.Explained (read_lives reads)
+AcceptedCome aims.Format reads arisen = arisen ≡ outcome.Accepted
 
 -- What a program comes to whose files were read.
 abbrev pub ReadsCome : Aim → List ReadFile → Outcome → Type 0
@@ -133,7 +141,8 @@ ReadsCome aim reads arisen =
     (program_outcome (program_files reads) ≡ Some arisen)
     ⊎ ((program_outcome (program_files reads) ≡ None) × AcceptedCome aim reads arisen)
 
--- Two outcomes are one: of programs that are to run, their modules are.
+-- Two outcomes are one: of programs that are to run, or to be compiled, their modules are.
 abbrev pub AreOne : Outcome → Outcome → Type 0
 AreOne (outcome.Runs one) (outcome.Runs other) = slots.modules one ≡ slots.modules other
+AreOne (outcome.Compiles one) (outcome.Compiles other) = slots.modules one ≡ slots.modules other
 AreOne one other = one ≡ other

@@ -13,7 +13,7 @@ use Rattle.au_program_lives.specs.declared.faults.LinearFault.TheVariants as liv
 use Rattle.au_rules.specs.declared.faults.DeclFault.{DeclFault}
 use Rattle.au_rules.specs.declared.faults.DeclFault.TheVariants as rules
 use Rattle.au_outcomes.specs.declared.refusals.Refusal.{Refusal}
-use Rattle.au_outcomes.specs.declared.refusals.Refusal.TheVariants.{Byte, Syntax, WordNotYet}
+use Rattle.au_outcomes.specs.declared.refusals.Refusal.TheVariants.{Byte, Syntax}
 use Rattle.au_outcomes.specs.declared.refusals.Refusal.TheVariants.{Pair, Import, Declaration, Instance}
 use Rattle.au_outcomes.specs.declared.refusals.Refusal.TheVariants.{Typing, Linear, Entry, Stuck}
 
@@ -69,7 +69,6 @@ is_life_refusal lives.Memory = false
 abbrev pub is_refusal : Refusal → Bool
 is_refusal (Byte at) = true
 is_refusal (Syntax at) = true
-is_refusal (WordNotYet what) = true
 is_refusal (Pair fault) = is_module_refusal fault
 is_refusal (Import fault) = is_import_refusal fault
 is_refusal (Declaration fault) = is_declaration_refusal fault

@@ -1,10 +1,11 @@
 -- Which tokens have a tree, and what tokens come to.
-use Rattle.std.specs.Prelude.{◌≡◌, ◌⊎◌, ℕ, ◌+◌, ◌-◌, List, [], ◌∷◌, Err, IsTrue, length, unwrap_or, slice_get}
+use Rattle.std.specs.Prelude.{◌≡◌, ◌⊎◌, ℕ, ◌+◌, List, [], ◌∷◌, Err, IsTrue, unwrap_or, slice_get}
 use Rattle.std.specs.Option.{option_map}
 use Rattle.au_base.specs.declared.limits.Limit.{Limit}
 use Rattle.au_base.specs.declared.places.Pos.{Pos}
 use Rattle.au_base.specs.declared.tokens.Token.{Token}
 use Rattle.au_base.specs.Places.{place_after}
+use Rattle.au_fault_places.specs.Fronts.{IsFaultPlace}
 use Rattle.au_lexer.specs.Cut.{Cut, IsStray, PassesLimit}
 use Rattle.au_lexer.specs.Passing.{IsWithinLimits}
 use Rattle.au_parser.specs.ModuleReading.{file_at}
@@ -36,12 +37,15 @@ TreesPass tokens limit =
 abbrev pub place_or : Pos → List Token → ℕ → Pos
 place_or end tokens index = unwrap_or (option_map (λ (token : Token). token.at) (slice_get tokens index)) end
 
--- The place of the token at which reading stops, or the end where it stops behind the last one.
+-- Reading meets no limit.
+abbrev pub MeetsNoLimit : List Token → Type 0
+MeetsNoLimit tokens = (limit : Limit) (left : ℕ) → file_at usual tokens ≡ Err (reading.Passed limit left) → ⊥
+
+-- The place of the first token that no file has behind those before it, or the end where the file ends too early;
+-- and reading meets no limit.
 abbrev pub IsPlaceIn : List Token → Pos → Pos → Type 0
 IsPlaceIn tokens end at =
-    (left : ℕ)
-    × (file_at usual tokens ≡ Err (reading.Syntax left))
-    × (at ≡ place_or end tokens (length tokens - left))
+    (place : ℕ) × IsFaultPlace tokens place × MeetsNoLimit tokens × (at ≡ place_or end tokens place)
 
 -- a file that was read: its tokens, the place of its end, and its tree
 pub record ReadFile : Type 0 where

@@ -4,14 +4,16 @@ ghost use Rattle.std.specs.Prelude.{◌≡◌, ◌≤◌, ◌<◌, All, false, m
 ghost use Rattle.std.specs.String.{string_bytes};
 ghost use Rattle.au_base.specs.Limits.{most_file_bytes};
 ghost use Rattle.au_base.specs.Outside.{Counts};
+ghost use Rattle.au_outcomes.specs.Accepted.{judges};
 ghost use Rattle.au_outcomes.specs.Halts.{ComesTo, Says, StopsIn, bytes_in, is_missing, is_read_fault};
 ghost use Rattle.au_outcomes.specs.Halts.{is_read_halt};
-ghost use Rattle.au_outcomes.specs.Outcomes.{BytesCome, files_limit, most_files};
+ghost use Rattle.au_outcomes.specs.Outcomes.{BytesCome, JudgedCome, files_limit, most_files};
 ghost use Rattle.au_outcomes.specs.declared.outcomes.Outcome.TheVariants as outcome;
 
 use crate::fetching::fetch_all;
 use crate::halts::{CheckFault, Halt};
 use crate::judging::{accepted_outcome, judge};
+use crate::layouts::laid_outcome;
 use crate::outcomes::{Aim, Outcome};
 use crate::reading::read_all;
 use au_base::{Limit, LimitKind, Shelf};
@@ -87,13 +89,40 @@ fn few_enough(count: usize) -> Result<(), Halt>
     Ok(())
 }
 
-/// What the program of files of these bytes comes to: all are read, then their modules are judged, and then
-/// comes what is asked.
+/// What the files of these bytes come to, of which this is asked: they are laid out, or judged.
 fn outcome_of(alloc: Global, aim: Aim, all: &[Vec<u8>]) -> Result<Outcome, Halt>
     requires few { length all.now ≤ most_files }
     requires small { All (λ bytes. length bytes.items ≤ most_file_bytes) all.now }
     ensures comes { Says result (BytesCome aim (map bytes_in all.now))
         (BytesCome aim (map bytes_in all.now)) }
+    ensures is_read { is_read_halt result ≡ false }
+{
+    if !is_judged(aim) {
+        return laid_outcome(alloc, all);
+    }
+    judged_outcome(alloc, aim, all)
+}
+
+/// Whether files of which this is asked are judged as those of a program.
+fn is_judged(aim: Aim) -> bool
+    ensures { result ≡ judges aim }
+{
+    match aim {
+        Aim::Run => true,
+        Aim::Compile => true,
+        Aim::Check => true,
+        Aim::Explain => true,
+        Aim::Format => false,
+    }
+}
+
+/// The same where the files are judged: all are read, then their modules are judged, and then comes what is
+/// asked.
+fn judged_outcome(alloc: Global, aim: Aim, all: &[Vec<u8>]) -> Result<Outcome, Halt>
+    requires few { length all.now ≤ most_files }
+    requires small { All (λ bytes. length bytes.items ≤ most_file_bytes) all.now }
+    ensures comes { Says result (JudgedCome aim (map bytes_in all.now))
+        (JudgedCome aim (map bytes_in all.now)) }
     ensures is_read { is_read_halt result ≡ false }
 {
     let trees = read_all(alloc, all)?;

@@ -87,17 +87,18 @@ fn with_shipped(alloc: Global, own: Vec<FileTree>) -> Result<Vec<FileTree>, Memo
 }
 
 /// What accepted files come to whose program is this: where no more is asked they are accepted, where they
-/// are explained they come to the lives of their variables, and where their program is to run that is what
-/// they come to.
+/// are explained they come to the lives of their variables, and where their program is to run or to be
+/// compiled that is what they come to.
 pub fn accepted_outcome(alloc: Global, aim: Aim, noted: NotedProgram) -> Result<Outcome, Halt>
     ensures comes { (reads : List ReadFile) → slots.modules noted ≡ program_modules reads
         → Says result (AcceptedCome aim reads) (AcceptedCome aim reads) }
     ensures is_read { is_read_halt result ≡ false }
 {
     match aim {
-        Aim::Check => Ok(Outcome::Accepted),
+        Aim::Check | Aim::Format => Ok(Outcome::Accepted),
         Aim::Explain => explained(alloc, &noted),
         Aim::Run => Ok(Outcome::Runs(noted)),
+        Aim::Compile => Ok(Outcome::Compiles(noted)),
     }
 }
 

@@ -8,7 +8,7 @@ ghost use Rattle.au_outcomes.specs.Lines as lines;
 ghost use Rattle.au_outcomes.specs.Refusals.{is_class_refusal, is_declaration_refusal, is_import_refusal};
 ghost use Rattle.au_outcomes.specs.Refusals.{is_life_refusal, is_module_refusal, is_refusal, is_type_refusal};
 
-use crate::refusals::{Refusal, Unbuilt};
+use crate::refusals::Refusal;
 use au_base::{Entry, Limit, LimitKind, Memory, Name, Pos, Text};
 use au_classes::ClassFault;
 use au_imports::ImportFault;
@@ -44,7 +44,6 @@ fn add_refusal(
     match refusal {
         Refusal::Byte(at) => add_placed(text, *at, files, b": byte"),
         Refusal::Syntax(at) => add_placed(text, *at, files, b": syntax"),
-        Refusal::WordNotYet(what) => add_unbuilt(text, *what),
         Refusal::Pair(fault) => add_pair(text, fault, files),
         Refusal::Import(fault) => add_import(text, fault, files),
         Refusal::Declaration(fault) => add_declaration(text, fault, files),
@@ -198,25 +197,6 @@ fn add_variable(
     add_placed(text, at, files, b": ")?;
     text.extend_from_slice(told.as_slice())?;
     Ok(())
-}
-
-/// Adds that something is not built yet, with its word.
-fn add_unbuilt(text: &mut Vec<u8>, what: Unbuilt) -> Result<(), Memory>
-    ensures { OnOk result (text.new.items
-        ≡ text.old.items ++ (codes "not yet: " ++ lines.unbuilt_word what)) }
-{
-    text.extend_from_slice(b"not yet: ")?;
-    text.extend_from_slice(unbuilt_word(what))?;
-    Ok(())
-}
-
-/// The word for what is not built yet, as its line says it.
-fn unbuilt_word(what: Unbuilt) -> &'static [u8]
-    ensures { result.now ≡ lines.unbuilt_word what }
-{
-    match what {
-        Unbuilt::Compile => b"compile",
-    }
 }
 
 /// Adds the entry that a program doesn't have, or that hasn't the form of one.

@@ -9,10 +9,14 @@ use au_explain::{Lives, NotedProgram};
 pub enum Aim {
     /// To run.
     Run,
+    /// To be compiled.
+    Compile,
     /// To be judged, and no more.
     Check,
     /// To tell the lives of its variables.
     Explain,
+    /// To be laid out, and not to be judged.
+    Format,
 }
 
 /// What words and files come to, where nothing fails and memory is there.
@@ -24,12 +28,16 @@ pub enum Outcome {
     Missing(Text),
     /// A quantity passes its limit.
     Passes(Limit),
-    /// What the words ask for is not built yet, or the program is refused.
+    /// The program is refused.
     Refused(Refusal),
     /// The program is accepted, and no more is asked of it.
     Accepted,
     /// The program is accepted, and these are the lives of its variables.
     Explained(Lives),
-    /// The program is accepted, it names nothing that isn't built yet, and it is to run.
+    /// The files have trees, and this is their layout.
+    Laid(Text),
+    /// The program is accepted, and it is to run.
     Runs(NotedProgram),
+    /// The program is accepted, and it is to be compiled.
+    Compiles(NotedProgram),
 }

@@ -52,7 +52,7 @@ fn read_file(alloc: Global, file: u16, bytes: &[u8]) -> Result<FileTree, Halt>
 }
 
 /// The tree whose words the tokens of a file are, whose end is this place.
-fn tree_of(alloc: Global, tokens: &[Token], end: Pos) -> Result<Whole<Parsed>, Halt>
+pub fn tree_of(alloc: Global, tokens: &[Token], end: Pos) -> Result<Whole<Parsed>, Halt>
     requires { length tokens.now ≤ most_tokens }
     ensures comes { Says result (λ whole. Spells (says ⟦<Parsed as Phase>⟧ whole.tree) tokens.now)
         (TokensHalt tokens.now end) }

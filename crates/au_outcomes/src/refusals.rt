@@ -15,8 +15,6 @@ pub enum Refusal {
     Byte(Pos),
     /// The token at this place stands where no file has it, or the file ends too early.
     Syntax(Pos),
-    /// The words ask for something that is not built yet.
-    WordNotYet(Unbuilt),
     /// The files are not those of modules.
     Pair(ModuleFault),
     /// A name or a promise of the modules is not good.
@@ -33,11 +31,4 @@ pub enum Refusal {
     Entry(Entry),
     /// The program came to what is not built yet while it ran.
     Stuck,
-}
-
-/// What words ask for that is not built yet.
-#[derive(Clone, Copy, Debug, PartialEq, Eq)]
-pub enum Unbuilt {
-    /// The command `compile`.
-    Compile,
 }

@@ -26,6 +26,7 @@ mod SharedLemmas
 mod OrderLemmas
 pub mod ClosedLemmas
 pub mod CodeLemmas
+mod CodingLemmas
 pub mod MeaningLemmas
 pub mod GoodLemmas
 pub mod AskedLemmas

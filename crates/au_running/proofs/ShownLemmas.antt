@@ -1,5 +1,6 @@
 -- What is answered of a run of a program's code is so of the program.
-use Rattle.std.proofs.Common.{◌≡◌, ℕ, Bool, true, false, List, ◌++◌, Option, Ok, ap, subst, sym, ◌∙◌}
+use Rattle.std.proofs.Common.{◌≡◌, ℕ, Bool, true, false, List, ◌++◌, Option, Result, Ok, Err, ap, subst, sym}
+use Rattle.std.proofs.Common.{◌∙◌}
 use Rattle.std.proofs.Common.{true≢false}
 use Rattle.au_base.specs.declared.limits.Limit.{Limit}
 use Rattle.au_typing.specs.Trees.{NotedParts}
@@ -14,12 +15,14 @@ use Rattle.au_noting_programs.specs.Faults.{IsDerived}
 use Rattle.au_rules.specs.Good.{AllDeclarationsAreGood}
 use Rattle.au_runs.specs.Calls.{IsCut}
 use Rattle.au_running.specs.Came.{CodeEnds, CodeCompletes}
-use Rattle.au_running.specs.Coded.{HasCode}
+use Rattle.au_running.specs.Coded.{HasCode, IsProgramCode}
 use Rattle.au_running.specs.Lines.{deeds_told}
 use Rattle.au_running.specs.Meant.{means}
 use Rattle.au_running.specs.Ran.{CompletesAsMeant, IsLowered, LivesAsMeant, ProgramEnds, ProgramIsCut}
 use Rattle.au_running.specs.Runs.{LoweredProgramsRun, ran_by}
 use Rattle.au_running.specs.Tells.{EventsShow, LoweredProgramsTell, type_words}
+use Rattle.au_running.specs.declared.coding.Uncoded.{Uncoded}
+use Rattle.au_running.specs.declared.coding.Uncoded.TheVariants as uncoded
 use Rattle.au_running.specs.declared.ran.Ran.{Ran}
 use Rattle.au_running.specs.declared.ran.Ran.TheVariants as how
 use Rattle.au_running.proofs.AnswerLemmas.{came_cut}
@@ -127,3 +130,11 @@ module _ (program : List ModuleParts) (noted : List NotedParts) (owner name : By
         → ProgramIsCut program noted owner name steps told out out'
     cut_so steps told out out' cut =
         (lowered, subst (λ (code : Code). IsCut (low_run false code) steps told out out') has.3 cut)
+
+  -- what is answered of its code
+  pub code_so : LoweredProgramsRun → LoweredProgramsTell → (answer : Result Code Uncoded)
+      → HasCode program noted owner name answer → IsProgramCode program noted owner name answer
+  code_so law also (Ok code) has = (lowered law also code has, has.3)
+  code_so law also (Err uncoded.NoEntry) has = has
+  code_so law also (Err (uncoded.Limit limit)) has = has
+  code_so law also (Err uncoded.Memory) has = tt

@@ -1,11 +1,15 @@
 //! From an accepted program to its code.
 
-ghost use Rattle.std.specs.Prelude.{List};
+ghost use Rattle.std.specs.Prelude.{◌≡◌, List, false};
+ghost use Rattle.au_closed_programs.specs.Answers.{ClosesWithin};
+ghost use Rattle.au_closed_programs.specs.Programs.{ClosedProgram};
+ghost use Rattle.au_lowering.specs.Closed.{is_too_long};
 ghost use Rattle.au_typing.specs.Trees.{NotedParts};
 ghost use Rattle.au_modules.specs.Slots as slots;
 ghost use Rattle.au_noting_programs.specs.Faults.{IsDerived};
-ghost use Rattle.au_running.specs.Coded.{HasCode};
+ghost use Rattle.au_running.specs.Coded.{HasCode, IsProgramCode, TellsNoLimit};
 
+use crate::laws::{lowered_programs_run, lowered_programs_tell};
 use au_base::{Entry, Limit};
 use au_closed_programs::{CloseFault, close};
 use au_low::Code;
@@ -31,8 +35,12 @@ pub enum Uncoded {
 /// `NoEntry` exactly where there is no such entry, or it hasn't the form of one; `Limit` where an instance
 /// passes a limit, there are too many, or the code is too long; `Memory` when memory runs out.
 pub fn closed_code(alloc: Global, program: &NotedProgram, entry: &Entry) -> Result<Code, Uncoded>
-    ensures { (noted : List NotedParts) × IsDerived (slots.modules program.now) noted
+    ensures is { (noted : List NotedParts) × IsDerived (slots.modules program.now) noted
         × HasCode (slots.modules program.now) noted entry.now.module entry.now.function result }
+    ensures exact { (noted : List NotedParts) (c : ClosedProgram)
+        → IsDerived (slots.modules program.now) noted
+        → ClosesWithin (slots.modules program.now) noted entry.now.module entry.now.function c
+        → is_too_long c ≡ false → TellsNoLimit result }
 {
     let whole = program.program();
     let instances = &program.classes().instances;
@@ -50,4 +58,23 @@ pub fn closed_code(alloc: Global, program: &NotedProgram, entry: &Entry) -> Resu
             Ok(code) => Ok(code),
         },
     }
+}
+
+/// The code of an accepted program from its entry. It is that which a run of the program runs.
+///
+/// # Errors
+///
+/// `NoEntry` exactly where there is no such entry, or it hasn't the form of one; `Limit` exactly where an
+/// instance passes a limit, there are too many, or the code is too long; `Memory` when memory runs out.
+pub fn program_code(alloc: Global, program: &NotedProgram, entry: &Entry) -> Result<Code, Uncoded>
+    ensures is { (noted : List NotedParts) × IsDerived (slots.modules program.now) noted
+        × IsProgramCode (slots.modules program.now) noted entry.now.module entry.now.function result }
+    ensures exact { (noted : List NotedParts) (c : ClosedProgram)
+        → IsDerived (slots.modules program.now) noted
+        → ClosesWithin (slots.modules program.now) noted entry.now.module entry.now.function c
+        → is_too_long c ≡ false → TellsNoLimit result }
+{
+    lowered_programs_run();
+    lowered_programs_tell();
+    closed_code(alloc, program, entry)
 }

@@ -14,5 +14,6 @@ mod ran;
 mod running;
 mod telling;
 
+pub use coding::{Uncoded, program_code};
 pub use ran::{Ran, Report};
 pub use running::run_program;

@@ -1,5 +1,5 @@
 -- What words and files come to.
-use Rattle.std.proofs.Common.{◌≡◌, true, Bool, ℕ, ◌<◌, List, String, Option, Result, Ok, Err, Vec}
+use Rattle.std.proofs.Common.{◌≡◌, true, Bool, ℕ, ◌<◌, List, String, Option}
 use Rattle.std.proofs.Common.{length, map, ap, ◌∙◌, refl, subst, arith, inl, inr}
 use Rattle.std.specs.Global.{Global}
 use Rattle.std.specs.String.{string_bytes}
@@ -15,47 +15,36 @@ use Rattle.au_outcomes.specs.Halts.{StopsIn, is_read}
 use Rattle.au_outcomes.specs.declared.outcomes.Aim.{Aim}
 use Rattle.au_top.specs.Jobs.{asked_of}
 use Rattle.au_outcomes.specs.Outcomes.{Comes, is_outcome, most_files}
-use Rattle.au_top.specs.Dues.{Arises, Asks, AsksForNoFile, AsksForTooMany}
+use Rattle.au_top.specs.Dues.{Arises, AsksForTooMany}
 use Rattle.au_top.specs.Calls.{FailsBehind}
 use Rattle.au_outcomes.proofs.NameLemmas.{comes_outcome}
-use Rattle.au_outcomes.specs.declared.refusals.Unbuilt.{Unbuilt}
 use Rattle.au_outcomes.specs.declared.outcomes.Outcome.{Outcome}
 use Rattle.au_outcomes.specs.declared.outcomes.Outcome.TheVariants as outcome
-use Rattle.au_outcomes.specs.declared.refusals.Refusal.TheVariants.{WordNotYet}
 
--- a job that asks for nothing that isn't built, and what its files come to
+-- a job, and what its files come to
 module _ (words names : List (List ℕ)) (task : Task) (files : Files) (aim : Aim) where
-  pub arises_from : (arisen : Outcome) → IsJob words task → names ≡ task.files → Ok aim ≡ asked_of task
+  pub arises_from : (arisen : Outcome) → IsJob words task → names ≡ task.files → aim ≡ asked_of task
       → Comes aim files names arisen → Arises words files names arisen
   arises_from outcome.NoJob job same built comes = elim comes [
     | inl many ↦ let e = many.1 in cc
     | inr few ↦ absurd few.1
   ]
   arises_from (outcome.Missing other) job same built comes =
-      (task, job, same, subst (λ asked. Asks asked files names (outcome.Missing other)) built comes)
+      (task, job, same, subst (λ asked. Comes asked files names (outcome.Missing other)) built comes)
   arises_from (outcome.Passes limit) job same built comes =
-      (task, job, same, subst (λ asked. Asks asked files names (outcome.Passes limit)) built comes)
+      (task, job, same, subst (λ asked. Comes asked files names (outcome.Passes limit)) built comes)
   arises_from (outcome.Refused refusal) job same built comes =
-      (task, job, same, subst (λ asked. Asks asked files names (outcome.Refused refusal)) built comes)
+      (task, job, same, subst (λ asked. Comes asked files names (outcome.Refused refusal)) built comes)
   arises_from outcome.Accepted job same built comes =
-      (task, job, same, subst (λ asked. Asks asked files names outcome.Accepted) built comes)
+      (task, job, same, subst (λ asked. Comes asked files names outcome.Accepted) built comes)
   arises_from (outcome.Explained lives) job same built comes =
-      (task, job, same, subst (λ asked. Asks asked files names (outcome.Explained lives)) built comes)
+      (task, job, same, subst (λ asked. Comes asked files names (outcome.Explained lives)) built comes)
+  arises_from (outcome.Laid text) job same built comes =
+      (task, job, same, subst (λ asked. Comes asked files names (outcome.Laid text)) built comes)
   arises_from (outcome.Runs program) job same built comes =
-      (task, job, same, subst (λ asked. Asks asked files names (outcome.Runs program)) built comes)
-
--- a job that asks for something that isn't built
-pub arises_unbuilt : (words names : List (List ℕ)) (task : Task) (files : Files) (what : Unbuilt)
-    → IsJob words task
-    → names ≡ task.files → Err what ≡ asked_of task
-    → Arises words files names (outcome.Refused (WordNotYet what))
-arises_unbuilt words names task files what job same is =
-    (task, job, same, subst (λ asked. Asks asked files names (outcome.Refused (WordNotYet what))) is refl)
-
--- the names of the files that a job says are those of its task
-pub said_names : (files of_job : Vec (String Global) Global) → files ≡ of_job
-    → map string_bytes files.items ≡ map string_bytes of_job.items
-said_names files of_job same = ap (λ (v : Vec (String Global) Global). map string_bytes v.items) same
+      (task, job, same, subst (λ asked. Comes asked files names (outcome.Runs program)) built comes)
+  arises_from (outcome.Compiles program) job same built comes =
+      (task, job, same, subst (λ asked. Comes asked files names (outcome.Compiles program)) built comes)
 
 -- what a job says of a run is what the task of its words says
 pub said_task : (words : List (List ℕ)) (job : Job) (task : Task) (entry : Option Entry) (steps : ℕ)
@@ -69,32 +58,18 @@ said_task words job task entry steps life asked other same_entry same_steps same
     )
 
 -- what words and files come to is an outcome
-asks_outcome : (asked : Result Aim Unbuilt) (files : Files) (names : List (List ℕ)) (arisen : Outcome)
-    → Asks asked files names arisen → is_outcome arisen ≡ true
-asks_outcome (Err what) files names arisen h = ap is_outcome h
-asks_outcome (Ok aim) files names arisen h = comes_outcome aim files names arisen h
-
 pub arises_outcome : (words : List (List ℕ)) (files : Files) (names : List (List ℕ)) (arisen : Outcome)
     → Arises words files names arisen → is_outcome arisen ≡ true
 arises_outcome words files names outcome.NoJob h = refl
 arises_outcome words files names (outcome.Missing other) h = refl
 arises_outcome words files names (outcome.Passes limit) h = refl
-arises_outcome words files names (outcome.Refused refusal) h = asks_outcome (asked_of h.0) files names
+arises_outcome words files names (outcome.Refused refusal) h = comes_outcome (asked_of h.0) files names
     (outcome.Refused refusal) h.3
 arises_outcome words files names outcome.Accepted h = refl
 arises_outcome words files names (outcome.Explained lives) h = refl
+arises_outcome words files names (outcome.Laid text) h = refl
 arises_outcome words files names (outcome.Runs program) h = refl
-
--- a job that asks for nothing that isn't built asks for files
-pub asks_files : (words : List (List ℕ)) (task : Task) (aim : Aim) → IsJob words task → Ok aim ≡ asked_of task
-    → AsksForNoFile words → ⊥
-asks_files words task aim job built idle = elim idle [
-  | inl none ↦ none task job
-  | inr other ↦
-      let same : task ≡ other.0 = one_job words task other.0 job other.2 in
-      let both : ◌≡◌ {A = Result Aim Unbuilt} (Ok aim) (Err other.1) = built ∙ ap asked_of same ∙ other.3 in
-      cc
-]
+arises_outcome words files names (outcome.Compiles program) h = refl
 
 -- a job that asks for too many files
 pub asks_many : (words : List (List ℕ)) (task : Task) (files : List (String Global)) → IsJob words task
@@ -106,15 +81,12 @@ asks_many words task files job same many =
     omega (arith, length-map files string_bytes, many.2)
 
 -- where the shelf failed behind files of a job
-pub fails_behind : (words : List (List ℕ)) (told : Option Files) (task : Task) (aim : Aim)
+pub fails_behind : (words : List (List ℕ)) (told : Option Files) (task : Task)
     (files names : List (String Global)) → IsJob words task → map string_bytes files ≡ task.files
-    → names ≡ files
-    → asked_of task ≡ Ok aim → StopsIn told (map string_bytes names) → FailsBehind words told
-fails_behind words told task aim files names job same list built stops = (
+    → names ≡ files → StopsIn told (map string_bytes names) → FailsBehind words told
+fails_behind words told task files names job same list stops = (
   task,
-  aim,
   job,
-  built,
   subst (λ ns. StopsIn told ns) same
       (subst (λ (l : List (String Global)). StopsIn told (map string_bytes l)) list stops),
 )

@@ -5,7 +5,7 @@ use Rattle.au_base.specs.declared.statuses.Status.{Status}
 use Rattle.au_base.specs.declared.statuses.Status.TheVariants as status
 use Rattle.au_base.specs.Outside.{Files}
 use Rattle.au_syntax.specs.Plain.{Bytes}
-use Rattle.au_words.specs.Jobs.{Task}
+use Rattle.au_words.specs.Jobs.{IsNoJob, Task}
 use Rattle.au_words.proofs.JobLemmas.{one_job}
 use Rattle.au_modules.specs.Programs.{ModuleParts}
 use Rattle.au_modules.specs.Slots as slots
@@ -22,10 +22,11 @@ use Rattle.au_outcomes.specs.declared.outcomes.Aim.TheVariants as aims
 use Rattle.au_outcomes.specs.declared.outcomes.Outcome.{Outcome}
 use Rattle.au_outcomes.specs.declared.outcomes.Outcome.TheVariants as outcome
 use Rattle.au_outcomes.proofs.AcceptedLemmas.{behind_accepted, comes_asked}
+use Rattle.au_outcomes.proofs.LaidLemmas.{laid_asked}
 use Rattle.au_top.specs.Calls.{Call, ComesToRun, HasSucceeded, IsDecided, IsRunEnd, ReportsRun}
 use Rattle.au_top.specs.Calls.{ShelfMissedNone}
 use Rattle.au_top.specs.Calls.{ShelfNeverFailed, Tells, is_decided, is_run_end}
-use Rattle.au_top.specs.Dues.{Arises, AsksForNoFile, AsksForTooMany, IsRun}
+use Rattle.au_top.specs.Dues.{Arises, AsksForTooMany, IsRun}
 use Rattle.au_top.specs.Ends.{HasEnded, HasPaidAll, IsRunWhole}
 use Rattle.au_top.specs.Entered.{CanRun, HasEntry}
 use Rattle.au_top.specs.Promises.{FilePromises, Promises, RunPromises}
@@ -33,6 +34,8 @@ use Rattle.au_top.specs.Runs.{Run, run_status}
 use Rattle.au_top.specs.Streams.{Streams}
 use Rattle.au_top.proofs.DueLemmas as due
 use Rattle.au_top.proofs.EndLemmas as of
+use Rattle.au_top.proofs.FormatLemmas.{ended_formatted, ended_formatted_only}
+use Rattle.au_top.proofs.TextLemmas.{compile_promises}
 
 -- ---- by how it ran
 
@@ -138,9 +141,10 @@ none_behind : (files : Files) (names : List (List ℕ)) (arisen other : Outcome)
 none_behind files names arisen other same behind none comes =
     let good = behind_accepted aims.Run files names arisen comes (ap is_behind same ∙ behind) in
     none good.1 (subst (λ o. RunComes good.1 o) same
-    (comes_asked aims.Run files names good.0 good.1 arisen good.2 comes))
+    (comes_asked aims.Run files names good.0 good.1 arisen refl good.2 comes))
 
--- The files of a run come neither to that they are accepted nor to the lives of their variables.
+-- The files of a run come neither to that they are accepted nor to the lives of their variables nor to their
+-- layout.
 run_succeeds : (words : List (List ℕ)) (files : Files) (names : List (List ℕ)) (arisen : Outcome)
     (task : Task) (s : Streams) → IsRun words task → Arises words files names arisen
     → HasSucceeded s names arisen → ⊥
@@ -149,7 +153,13 @@ run_succeeds words files names arisen task s job arises succeeded =
     due.task_comes words files names arisen task aims.Run job.0 (due.run_asks words task job) arises in
     elim succeeded [
       | inl p ↦ none_behind files task.files arisen outcome.Accepted p.0 refl (λ reads h. h) comes
-      | inr p ↦ none_behind files task.files arisen (outcome.Explained p.0) p.1 refl (λ reads h. h) comes
+      | inr others ↦ elim others [
+        | inl p ↦ none_behind files task.files arisen (outcome.Explained p.0) p.1 refl (λ reads h. h) comes
+        | inr p ↦
+            let asked = laid_asked aims.Run files task.files p.0
+            (subst (λ o. Comes aims.Run files task.files o) p.1 comes) in
+            absurd (let e : aims.Run ≡ aims.Format = asked in cc)
+      ]
     ]
 
 -- for a call whose words are a run, and its files, which are told
@@ -165,7 +175,7 @@ module _ (call : Call) (files : Files) (task : Task) (is : Tells call files)
       let good : Accepted files task.files =
       behind_accepted aims.Run files task.files (outcome.Runs r.program) comes refl in
       let run : RunComes good.1 (outcome.Runs r.program) =
-      comes_asked aims.Run files task.files good.0 good.1 (outcome.Runs r.program) good.2 comes in
+      comes_asked aims.Run files task.files good.0 good.1 (outcome.Runs r.program) refl good.2 comes in
       record {
         all = good.0;
         reads = good.1;
@@ -229,7 +239,10 @@ module _ (call : Call) where
   ended_runs_only h files task is job end =
       elim (of.decided call h (run_end_decided call.status end)) [
         | inl p ↦ paid_run files task is job p end
-        | inr r ↦ whole_can call files task is job r.0 end
+        | inr others ↦ elim others [
+          | inl r ↦ whole_can call files task is job r.0 end
+          | inr t ↦ of.text_runs call task job t
+        ]
       ]
 
   -- a program that can run, and ran, ended so or is stuck
@@ -256,7 +269,10 @@ module _ (call : Call) where
           absurd (due.run_unpaid call.words files p.names can.all p.arisen task can.reads (of.PaidFor call)
           job
           can.accepted (of.paid_arises call files is p) p.pays)
-      | inr r ↦ whole_enters files task is job good no_limit can r.0
+      | inr others ↦ elim others [
+        | inl r ↦ whole_enters files task is job good no_limit can r.0
+        | inr t ↦ of.text_runs call task job t
+      ]
     ],
     λ entered. elim entered [
       | inl end ↦ ended_runs_only h files task is job end
@@ -304,12 +320,15 @@ module _ (call : Call) where
         λ task all reads job good accepted. of.ended_explained call h files task all reads is job good
         accepted;
     explained_only = λ task job succeeds. of.ended_explained_only call h files task is job succeeds;
+    formatted = λ name text job good laid. ended_formatted call h files name text is job good laid;
+    formatted_only = λ name job succeeds. ended_formatted_only call h files name is job succeeds;
     run = run_promises h files is;
+    compile = λ task job. compile_promises call h files is task job;
   }
 
   -- A call that ended in one of these ways is as it is promised, where its shelf rests when it is to, and
   -- tells the same files.
-  pub promised : Ending → (AsksForNoFile call.words → ShelfNeverFailed call × ShelfMissedNone call)
+  pub promised : Ending → (IsNoJob call.words → ShelfNeverFailed call × ShelfMissedNone call)
       → (AsksForTooMany call.words → ShelfNeverFailed call × ShelfMissedNone call)
       → call.shelf.new_files ≡ call.shelf.files → Promises call
   promised h idle crowded files = record {

@@ -3,5 +3,8 @@ pub mod ArisesLemmas
 pub mod DueLemmas
 pub mod RunLemmas
 pub mod EndLemmas
+pub mod FormatLemmas
+pub mod TextLemmas
+pub mod CompiledLemmas
 pub mod EnteredLemmas
 pub mod AnsweredLemmas

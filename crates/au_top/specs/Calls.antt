@@ -1,5 +1,6 @@
 -- A call, how it ends, and what it leaves on its streams.
-use Rattle.std.specs.Prelude.{◌≡◌, ◌⊎◌, ℕ, Bool, true, false, IsTrue, IsSomeAnd, List, ◌++◌, Option, Some, Ok}
+use Rattle.std.specs.Prelude.{◌≡◌, ◌⊎◌, ℕ, Bool, true, false, IsTrue, IsSomeAnd, List, ◌++◌, Option, Some}
+use Rattle.std.specs.Prelude.{Result, Ok, Err}
 use Rattle.au_base.specs.declared.limits.Limit.{Limit}
 use Rattle.au_base.specs.declared.outside.Shelf as shelf
 use Rattle.au_base.specs.declared.statuses.Status.{Status}
@@ -13,18 +14,20 @@ use Rattle.au_words.specs.Jobs.{Task, IsJob}
 use Rattle.au_outcomes.specs.Accepted.{is_behind}
 use Rattle.au_outcomes.specs.Halts.{AreTold, StopsIn}
 use Rattle.au_outcomes.specs.Outcomes.{Comes}
-use Rattle.au_top.specs.Jobs.{asked_of}
-use Rattle.au_top.specs.Dues.{Due, IsRun, Owes, Arises, due_line, due_of}
-use Rattle.au_top.specs.Runs.{BreaksOff, EndsAsRun, IsTold, Run, Runs, line_of, run_of}
+use Rattle.au_top.specs.Dues.{Due, IsCompile, IsRun, Owes, Arises, due_line, due_of}
+use Rattle.au_top.specs.Runs.{BreaksOff, EndsAsRun, IsTold, Run, Runs, entry_of, line_of, run_of}
 use Rattle.au_top.specs.Streams.{Gains, GainsFront, HasFailed, HasStayed, NeverFailed, Streams}
+use Rattle.au_top.specs.Texts.{IsCoded, OwesText, coded_due}
 use Rattle.au_outcomes.specs.Refusals.{is_refusal}
 use Rattle.au_outcomes.specs.Lines.{accepted_line, refusal_line, limit_line, missing_line, read_fault_line}
 use Rattle.au_outcomes.specs.declared.refusals.Refusal.{Refusal}
+use Rattle.au_low.specs.declared.code.Code.{Code}
+use Rattle.au_running.specs.declared.coding.Uncoded.{Uncoded}
+use Rattle.au_running.specs.declared.coding.Uncoded.TheVariants as uncoded
 use Rattle.au_running.specs.declared.ran.Ran.{Ran}
 use Rattle.au_running.specs.declared.ran.Ran.TheVariants as how
 use Rattle.au_top.specs.declared.saying.AnswerFault.{AnswerFault}
 use Rattle.au_top.specs.declared.saying.AnswerFault.TheVariants as answer
-use Rattle.au_outcomes.specs.declared.outcomes.Aim.{Aim}
 use Rattle.au_outcomes.specs.declared.outcomes.Aim.TheVariants as aims
 use Rattle.au_outcomes.specs.declared.outcomes.Outcome.{Outcome}
 use Rattle.au_outcomes.specs.declared.outcomes.Outcome.TheVariants as outcome
@@ -129,11 +132,12 @@ abbrev pub Fails : AnswerFault → Due → Streams → Type 0
 Fails answer.Write due s = IsCut due s
 Fails answer.Memory due s = IsUntouched s
 
--- What a call may owe: what its words and the files that are told owe, or, where its shelf failed, the line
--- that says so.
+-- What a call may owe: what its words and the files that are told owe, for what they come to or, where they
+-- come to a program that is to be compiled, for its code; or, where its shelf failed, the line that says so.
 abbrev pub MayOwe : Call → Due → Type 0
 MayOwe call due =
-    ((files : Files) × AreTold call.shelf.files files × Owes call.words files due)
+    ((files : Files) × AreTold call.shelf.files files
+    × (Owes call.words files due ⊎ OwesText call.words files due))
     ⊎ (ShelfFailed call × (due ≡ due_line status.ReadFault read_fault_line))
 
 -- The call has paid this.
@@ -153,11 +157,10 @@ HasOutcome call P =
     (files : Files) × AreTold call.shelf.files files × (names : List (List ℕ)) × (arisen : Outcome)
     × Arises call.words files names arisen × P names arisen
 
--- The words are a job that asks for nothing that isn't built, its files are as few as they may be, and those
--- before one of them can be had, of those that are told.
+-- The words are a job, its files are as few as they may be, and those before one of them can be had, of those
+-- that are told.
 abbrev pub FailsBehind : List (List ℕ) → Option Files → Type 0
-FailsBehind words told =
-    (task : Task) × (aim : Aim) × IsJob words task × (asked_of task ≡ Ok aim) × StopsIn told task.files
+FailsBehind words told = (task : Task) × IsJob words task × StopsIn told task.files
 
 -- What the words ask for is refused, and its line stands on `err`.
 abbrev pub IsRefusedSo : Streams → List (List ℕ) → Outcome → Type 0
@@ -183,9 +186,14 @@ abbrev pub IsExplained : Streams → List (List ℕ) → Outcome → Type 0
 IsExplained s names arisen =
     (lives : Lives) × (arisen ≡ outcome.Explained lives) × Gains s.out (life_text lives)
 
--- Files are checked and accepted, or explained.
+-- A file is laid out, and its layout stands on `out`.
+abbrev pub IsLaidOut : Streams → List (List ℕ) → Outcome → Type 0
+IsLaidOut s names arisen = (text : List ℕ) × (arisen ≡ outcome.Laid text) × Gains s.out text
+
+-- Files are checked and accepted, or explained, or laid out.
 abbrev pub HasSucceeded : Streams → List (List ℕ) → Outcome → Type 0
-HasSucceeded s names arisen = IsSaidAccepted s names arisen ⊎ IsExplained s names arisen
+HasSucceeded s names arisen =
+    IsSaidAccepted s names arisen ⊎ (IsExplained s names arisen ⊎ IsLaidOut s names arisen)
 
 -- The steps that judge whether files are accepted have refused nothing, and what came behind them was paid:
 -- that they are accepted, or the lives of their variables.
@@ -230,6 +238,32 @@ IsRunCut run s =
     ⊎ ((ran : Ran) × (lines : List ℕ) × Runs run s ran lines × GainsFront s.err (lines ++ line_of run ran)
     × NeverFailed s.out × HasFailed s.err)
 
+-- ---- C text
+
+-- The words are a `compile`, and its files, of those that are told, have come to a program that is to be
+-- compiled. P holds of the run that would be of it.
+pub record ComesToText (call : Call) (P : Run → Type 0) : Type 0 where
+  pub files : Files
+  pub are_told : AreTold call.shelf.files files
+  pub task : Task
+  pub job : IsCompile call.words task
+  pub program : Modules
+  pub comes : Comes aims.Compile files task.files (outcome.Compiles program)
+  pub text : P (run_of task (slots.modules program))
+
+-- This was answered of the code of the program, and what is due for that was paid.
+pub record PaysText (call : Call) (run : Run) (answer : Result Code Uncoded) : Type 0 where
+  pub coded : IsCoded run answer
+  pub paid : IsSomeAnd (coded_due (entry_of run) answer) (HasPaid call)
+
+-- The call came to a program that is to be compiled, of whose code this was answered, and reports that.
+abbrev pub ReportsText : Call → Result Code Uncoded → Type 0
+ReportsText call answer = ComesToText call (λ run. PaysText call run answer)
+
+-- The call came to a program that is to be compiled, and paid what is due for what was answered of its code.
+abbrev pub HasCompiled : Call → Type 0
+HasCompiled call = (answer : Result Code Uncoded) × ReportsText call answer
+
 -- ---- what a status says
 
 -- The call has paid all that it owed, or its program has run and its line stands on `err`.
@@ -237,24 +271,30 @@ abbrev pub IsDone : Call → Type 0
 IsDone call = IsPaid call ⊎ HasRunItsProgram call
 
 -- Nothing was refused by the steps that judge whether files are accepted: what came behind them was paid, or
--- the program has run, whatever the run came to.
+-- the program has run, whatever the run came to, or was compiled, whatever was answered of its code.
 abbrev pub GoesBehind : Call → Type 0
-GoesBehind call = HasOutcome call (HasComeBehind call) ⊎ HasRunItsProgram call
+GoesBehind call = HasOutcome call (HasComeBehind call) ⊎ (HasRunItsProgram call ⊎ HasCompiled call)
 
--- What the words ask for is refused and the line of it stands on `err`, or their program ran, and has no such
--- entry, or is stuck.
+-- What the words ask for is refused and the line of it stands on `err`, or their program is to run or to be
+-- compiled, and has no such entry, or it ran and is stuck.
 abbrev pub IsRefused : Call → Type 0
 IsRefused call =
-    HasOutcome call (IsRefusedSo call.streams) ⊎ (ReportsRun call how.NoEntry ⊎ ReportsRun call how.Stuck)
+    HasOutcome call (IsRefusedSo call.streams)
+    ⊎ ((ReportsRun call how.NoEntry ⊎ ReportsRun call how.Stuck) ⊎ ReportsText call (Err uncoded.NoEntry))
 
--- The line of a limit stands on `err` that words or files pass, or that their program passes which is to run.
+-- The line of a limit stands on `err` that words or files pass, or that their program passes which is to run
+-- or to be compiled.
 abbrev pub PassesLimit : Call → Type 0
 PassesLimit call =
-    HasOutcome call (HasPassed call.streams) ⊎ ((limit : Limit) × ReportsRun call (how.Limit limit))
+    HasOutcome call (HasPassed call.streams)
+    ⊎ ((limit : Limit) × (ReportsRun call (how.Limit limit) ⊎ ReportsText call (Err (uncoded.Limit limit))))
 
--- Files are accepted or explained, or their program ran and returned success.
+-- Files are accepted or explained or laid out, or their program ran and returned success, or its C text was
+-- written.
 abbrev pub Succeeds : Call → Type 0
-Succeeds call = HasOutcome call (HasSucceeded call.streams) ⊎ ReportsRun call (how.Exit true)
+Succeeds call =
+    HasOutcome call (HasSucceeded call.streams)
+    ⊎ (ReportsRun call (how.Exit true) ⊎ ((code : Code) × ReportsText call (Ok code)))
 
 -- The program ran and aborted.
 abbrev pub Aborts : Call → Type 0

@@ -1,5 +1,5 @@
 -- The ways in which a call ends.
-use Rattle.std.specs.Prelude.{◌≡◌, ◌⊎◌, ℕ, false, List, IsSomeAnd, Result, Ok, Err}
+use Rattle.std.specs.Prelude.{◌≡◌, ◌⊎◌, ℕ, false, List, IsSomeAnd, Option, Result, Ok, Err}
 use Rattle.au_base.specs.declared.statuses.Status.{Status}
 use Rattle.au_base.specs.declared.statuses.Status.TheVariants as status
 use Rattle.au_base.specs.Outside.{Counts, Files}
@@ -14,12 +14,15 @@ use Rattle.au_outcomes.specs.declared.halts.CheckFault.{CheckFault}
 use Rattle.au_outcomes.specs.declared.halts.CheckFault.TheVariants as fault
 use Rattle.au_outcomes.specs.declared.outcomes.Outcome.{Outcome}
 use Rattle.au_outcomes.specs.declared.outcomes.Outcome.TheVariants as outcome
-use Rattle.au_top.specs.Calls.{Call, ComesToRun, FailsBehind, HasPaid, IsCut, IsRunCut}
+use Rattle.au_top.specs.Calls.{Call, ComesToRun, FailsBehind, HasCompiled, HasPaid, IsCut, IsRunCut, Pays}
 use Rattle.au_top.specs.Calls.{IsUntouched, MayOwe, ShelfFailed, ShelfMissedNone, ShelfNeverFailed}
 use Rattle.au_top.specs.Dues.{Arises, Due, due_line, due_of}
-use Rattle.au_top.specs.Runs.{BreaksOff, IsTold, Run, run_status}
+use Rattle.au_low.specs.declared.code.Code.{Code}
+use Rattle.au_running.specs.declared.coding.Uncoded.{Uncoded}
+use Rattle.au_top.specs.Runs.{BreaksOff, IsTold, Run, entry_of, run_status}
 use Rattle.au_top.specs.Streams.{AreQuiet, Gains, GainsFront, HasFailed, HasStayed, NeverFailed}
 use Rattle.au_top.specs.Streams.{Stream, Streams}
+use Rattle.au_top.specs.Texts.{IsCoded, coded_due}
 use Rattle.au_top.specs.declared.saying.AnswerFault.{AnswerFault}
 use Rattle.au_top.specs.declared.saying.AnswerFault.TheVariants as answer
 
@@ -54,6 +57,31 @@ RunEnds ends s run =
 abbrev pub IfRuns : Outcome → (List ModuleParts → Type 0) → Type 0
 IfRuns (outcome.Runs program) P = P (slots.modules program)
 IfRuns other P = Unit {0}
+
+-- ---- C text
+
+-- what a call has done by what it answered, where this is due: it was paid, or cut, or nothing was written
+abbrev pub PaysFor : Result Status AnswerFault → Option Due → Streams → Type 0
+PaysFor (Ok ends) due s = IsSomeAnd due (λ one. Pays one ends s) × AreQuiet s
+PaysFor (Err answer.Write) due s = IsSomeAnd due (λ one. IsCut one s)
+PaysFor (Err answer.Memory) due s = IsUntouched s
+
+-- Something was answered of the code of a program, and what is due for that was paid or cut.
+pub record PaysTextSo (answered : Result Status AnswerFault) (s : Streams) (run : Run) : Type 0 where
+  pub answer : Result Code Uncoded
+  pub coded : IsCoded run answer
+  pub pays : PaysFor answered (coded_due (entry_of run) answer) s
+
+-- what a call that compiled a program has done, by what it answered
+abbrev pub TextAnswers : Result Status AnswerFault → Streams → Run → Type 0
+TextAnswers (Ok ends) s run = PaysTextSo (Ok ends) s run
+TextAnswers (Err answer.Write) s run = PaysTextSo (Err answer.Write) s run
+TextAnswers (Err answer.Memory) s run = IsUntouched s
+
+-- P holds of the modules of an outcome that is a program to be compiled.
+abbrev pub IfCompiles : Outcome → (List ModuleParts → Type 0) → Type 0
+IfCompiles (outcome.Compiles program) P = P (slots.modules program)
+IfCompiles other P = Unit {0}
 
 -- ---- a call
 
@@ -113,6 +141,14 @@ module _ (call : Call) where
     pub read : ShelfNeverFailed call
     pub missed : ShelfMissedNone call
 
+  -- The files came to a program that is to be compiled, and what is due for its code was paid.
+  pub record HasComeToText : Type 0 where
+    pub text : HasCompiled call
+    pub quiet : AreQuiet call.streams
+    pub kept : HasStayed call.streams.input
+    pub read : ShelfNeverFailed call
+    pub missed : ShelfMissedNone call
+
   -- how a call ended
   abbrev pub HasEnded : Type 0
-  HasEnded = HasPaidAll ⊎ (HasCut ⊎ (HasNoMemory ⊎ (HasNoFile ⊎ HasComeToRun)))
+  HasEnded = HasPaidAll ⊎ (HasCut ⊎ (HasNoMemory ⊎ (HasNoFile ⊎ (HasComeToRun ⊎ HasComeToText))))

@@ -1,8 +1,11 @@
--- Which runs are entered.
-use Rattle.std.specs.Prelude.{◌≡◌, ℕ, List, Option}
+-- Which runs are entered, and which programs are compiled.
+use Rattle.std.specs.Prelude.{◌≡◌, ℕ, false, List, Option}
 use Rattle.au_base.specs.declared.names.Entry.{Entry}
 use Rattle.au_base.specs.Outside.{Files}
 use Rattle.au_words.specs.Jobs.{Task}
+use Rattle.au_closed_programs.specs.Answers.{ClosesWithin}
+use Rattle.au_closed_programs.specs.Programs.{ClosedProgram}
+use Rattle.au_lowering.specs.Closed.{is_too_long}
 use Rattle.au_modules.specs.Programs.{ModuleParts}
 use Rattle.au_typing.specs.Trees.{NotedParts}
 use Rattle.au_outcomes.specs.Accepted.{AreAcceptedAs}
@@ -38,3 +41,21 @@ pub record CanRun (files : Files) (task : Task) : Type 0 where
   pub accepted : AreAcceptedAs files task.files all reads
   -- The program has its entry.
   pub entry : HasEntry task.entry (program_modules reads) accepted.noted
+
+-- The program of a task's files can be compiled: that is said by rules alone.
+pub record CanCompile (files : Files) (task : Task) : Type 0 where
+  -- the bytes of the files
+  pub all : List (List ℕ)
+  -- the trees of the files
+  pub reads : List ReadFile
+  -- By these the files are accepted: so the rules of typing derive their program, with some notes.
+  pub accepted : AreAcceptedAs files task.files all reads
+  -- what the program closes to from its entry: so it has one
+  pub c : ClosedProgram
+  -- The instances that are reached from it pass no limit.
+  pub closes :
+      ClosesWithin (program_modules reads) accepted.noted
+      (entry_for task.entry (program_modules reads)).«module»
+      (entry_for task.entry (program_modules reads)).function c
+  -- Its code isn't too long.
+  pub short : is_too_long c ≡ false

@@ -2,8 +2,10 @@ pub mod Jobs
 pub mod Dues
 pub mod Streams
 pub mod Runs
+pub mod Texts
 pub mod Entered
 pub mod Calls
 pub mod Shown
 pub mod Ends
+pub mod Formatted
 pub mod Promises

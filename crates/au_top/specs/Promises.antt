@@ -1,27 +1,33 @@
 -- What is promised of a call: what `austral` ensures.
-use Rattle.std.specs.Prelude.{◌≡◌, ◌≢◌, ◌↔◌, ◌⊎◌, ℕ, false, true, List}
+use Rattle.std.specs.Prelude.{◌≡◌, ◌≢◌, ◌↔◌, ◌⊎◌, ℕ, false, true, List, Result}
 use Rattle.au_base.specs.declared.statuses.Status.TheVariants as status
 use Rattle.au_base.specs.Outside.{Files, HasRisen}
 use Rattle.au_words.specs.Jobs.{IsNoJob, Task}
 use Rattle.au_outcomes.specs.Accepted.{Accepted, AreAcceptedAs}
 use Rattle.au_outcomes.specs.Programs.{read_lives}
 use Rattle.au_outcomes.specs.Trees.{ReadFile}
+use Rattle.au_low.specs.declared.code.Code.{Code}
+use Rattle.au_lowering.specs.Closed.{code_of}
+use Rattle.au_running.specs.declared.coding.Uncoded.{Uncoded}
 use Rattle.au_running.specs.declared.ran.Ran.TheVariants as how
 use Rattle.au_top.specs.Calls.{Aborts, Call, GoesBehind, HasPaid, HasProgram, IsDecided, IsDone}
 use Rattle.au_top.specs.Calls.{IsRefused, IsRunEnd, LacksMemory, LosesSink, LosesSource, MissesFile}
-use Rattle.au_top.specs.Calls.{PassesLimit, ReportsRun, ShelfMissedNone, ShelfNeverFailed, Succeeds, Tells}
-use Rattle.au_top.specs.Dues.{AsksForNoFile, AsksForTooMany, Due, IsAcceptedJob, IsCheck, IsExplain, IsRun}
-use Rattle.au_top.specs.Dues.{IsUnread, Owes, accepted_due, explained_due}
-use Rattle.au_top.specs.Entered.{CanRun, IsToRun}
+use Rattle.au_top.specs.Calls.{PassesLimit, PaysText, ReportsRun, ShelfMissedNone, ShelfNeverFailed, Succeeds}
+use Rattle.au_top.specs.Calls.{Tells}
+use Rattle.au_top.specs.Dues.{AsksForTooMany, Due, IsAcceptedJob, IsCheck, IsCompile, IsExplain, IsRun}
+use Rattle.au_top.specs.Dues.{IsUnread, Owes, accepted_due, explained_due, laid_due}
+use Rattle.au_top.specs.Formatted.{HasLayoutOf, IsFormat}
+use Rattle.au_top.specs.Entered.{CanCompile, CanRun, IsToRun}
 use Rattle.au_top.specs.Runs.{EndsAsRun, Run}
 use Rattle.au_top.specs.Shown.{HasLives, IsAsMeant}
 use Rattle.au_top.specs.Streams.{AreQuiet, HasStayed, NeverFailed}
+use Rattle.au_top.specs.Texts.{text_due}
 
 -- What is promised of a call whose words are this job, a `run`, over these files.
 pub record RunPromises (call : Call) (files : Files) (task : Task) : Type 0 where
-  -- The code of its files' program is run where they are accepted: the call ends as the run of that code does,
-  -- its output is what that writes, the input is left as that leaves it, the lines of its events stand on `err`,
-  -- where they are asked for, and its line tells how the run ended.
+  -- The code of its files' program is run where they are accepted: the call ends as the run of that code
+  -- does, its output is what that writes, the input is left as that leaves it, the lines of its events stand
+  -- on `err`, where they are asked for, and its line tells how the run ended.
   pub runs : IsDecided call → (run : Run) → IsToRun files task run → EndsAsRun run call.streams call.status
   -- Then what is seen of the run is what the program means on its input, where that isn't stuck: it ends with
   -- 0 or 1, with 3 or with 4 by how its meaning ends within the steps, and has written what that writes.
@@ -44,16 +50,36 @@ pub record RunPromises (call : Call) (files : Files) (task : Task) : Type 0 wher
       IsDecided call → call.status ≢ status.Limit → call.status ≢ status.Missing
       → (CanRun files task → ⊥) ↔ ((call.status ≡ status.Refused) × (ReportsRun call how.Stuck → ⊥))
 
+-- What is promised of a call whose words are this job, a `compile`, over these files.
+pub record CompilePromises (call : Call) (files : Files) (task : Task) : Type 0 where
+  -- The code of its files' program from its entry is asked for where they are accepted, and what is due for
+  -- what is answered is paid: with 0 its C text on `out`, and nothing on `err`; or with 2 or 8 the line on
+  -- `err` that there is no such entry, or that a limit is passed.
+  pub answered :
+      IsDecided call → (run : Run) → IsToRun files task run
+      → (answer : Result Code Uncoded) × PaysText call run answer
+  -- Where its program can be compiled that is the C text of the code that it's lowered to.
+  pub compiled : IsDecided call → (can : CanCompile files task) → HasPaid call (text_due (code_of can.c))
+  -- It ends with 0 only there.
+  pub compiled_only : call.status ≡ status.Success → CanCompile files task
+  -- Unless a limit is passed it ends with 0 exactly where its program can run, and unless a file is missing
+  -- besides it ends with 2 exactly where that can't.
+  pub entered :
+      IsDecided call → call.status ≢ status.Limit → CanRun files task ↔ (call.status ≡ status.Success)
+  pub not_entered :
+      IsDecided call → call.status ≢ status.Limit → call.status ≢ status.Missing
+      → (CanRun files task → ⊥) ↔ (call.status ≡ status.Refused)
+
 -- What is promised of a call over files that are told.
 pub record FilePromises (call : Call) (files : Files) : Type 0 where
   -- What the words and the files owe is what is paid: they owe one thing alone.
   pub only : (due : Due) → Owes call.words files due → IsDecided call → HasPaid call due
-  -- A file that has no tree is refused, or a limit is told, unless the words ask for what is not built.
+  -- A file that has no tree is refused, or a limit is told.
   pub unread :
       IsUnread call.words files → IsDecided call
       → (call.status ≡ status.Refused) ⊎ (call.status ≡ status.Limit)
-  -- A job isn't refused by the steps that judge whether its files are accepted exactly where they are: then
-  -- the call says so, or its program is run.
+  -- A job whose files are judged isn't refused by the steps that judge whether they are accepted exactly
+  -- where they are: then the call says so, or its program is run or compiled.
   pub accepted : IsDecided call → IsAcceptedJob call.words files ↔ GoesBehind call
   -- A job `check` writes that its files are accepted, and ends with 0, exactly where they are.
   pub checked :
@@ -66,8 +92,18 @@ pub record FilePromises (call : Call) (files : Files) : Type 0 where
       → AreAcceptedAs files task.files all reads → HasPaid call (explained_due (read_lives reads))
   pub explained_only :
       (task : Task) → IsExplain call.words task → call.status ≡ status.Success → Accepted files task.files
+  -- A job `format` writes the layout of its file, and ends with 0, where the file can be had and has a tree
+  -- within the limits, and it ends with 0 only there.
+  pub formatted :
+      (name text : List ℕ) → IsFormat call.words name → IsDecided call → HasLayoutOf files name text
+      → HasPaid call (laid_due text)
+  pub formatted_only :
+      (name : List ℕ) → IsFormat call.words name → call.status ≡ status.Success
+      → (text : List ℕ) × HasLayoutOf files name text
   -- what is promised of a job `run`
   pub run : (task : Task) → IsRun call.words task → RunPromises call files task
+  -- what is promised of a job `compile`
+  pub compile : (task : Task) → IsCompile call.words task → CompilePromises call files task
 
 -- What is promised of every call.
 pub record Promises (call : Call) : Type 0 where
@@ -80,13 +116,13 @@ pub record Promises (call : Call) : Type 0 where
   pub words : call.status ≡ status.Words → IsNoJob call.words
   pub no_job : IsNoJob call.words → IsDecided call → call.status ≡ status.Words
   -- 2 comes with the line of a refusal that the words or the files have, or of a program without such an
-  -- entry, or of one whose run is stuck.
+  -- entry that is to run or to be compiled, or of one whose run is stuck.
   pub refused : call.status ≡ status.Refused → IsRefused call
   -- 8 comes with the line of a limit that is passed, and 9 with that of the first file that is missing.
   pub limit : call.status ≡ status.Limit → PassesLimit call
   pub missing_file : call.status ≡ status.Missing → MissesFile call
   -- 0 and 1 come by what the program returns, and 0 where it's checked and accepted, or where the lives of
-  -- its variables are told.
+  -- its variables are told, or its C text is written, or its file is laid out.
   pub success : call.status ≡ status.Success → Succeeds call
   pub failure : call.status ≡ status.Failure → ReportsRun call (how.Exit false)
   -- 3 comes by an abort, whose cause its line tells, and 4 where the steps of the run were spent.
@@ -102,8 +138,8 @@ pub record Promises (call : Call) : Type 0 where
   -- A status that the words and the files decide says that no count of faults rose.
   pub quiet : IsDecided call → ShelfNeverFailed call × NeverFailed call.streams.input × AreQuiet call.streams
   pub no_miss : IsDecided call → call.status ≢ status.Missing → ShelfMissedNone call
-  -- Where the words ask for no file, or for too many, the shelf neither fails nor misses one.
-  pub idle : AsksForNoFile call.words → ShelfNeverFailed call × ShelfMissedNone call
+  -- Where the words are no job, or ask for too many files, the shelf neither fails nor misses one.
+  pub idle : IsNoJob call.words → ShelfNeverFailed call × ShelfMissedNone call
   pub crowded : AsksForTooMany call.words → ShelfNeverFailed call × ShelfMissedNone call
   -- The input is as it was, unless the files came to a program that is to run.
   pub input : HasStayed call.streams.input ⊎ HasProgram call

@@ -7,9 +7,10 @@ ghost use Rattle.au_explain.specs.Lines.{life_text};
 ghost use Rattle.au_top.specs.Calls.{Fails, Pays};
 ghost use Rattle.au_outcomes.specs.Outcomes.{is_outcome};
 ghost use Rattle.au_top.specs.Dues.{due_of};
-ghost use Rattle.au_top.specs.Ends.{IfRuns, RunAnswers};
+ghost use Rattle.au_top.specs.Ends.{IfCompiles, IfRuns, RunAnswers, TextAnswers};
 ghost use Rattle.au_top.specs.Streams.{AreQuiet, HasStayed, source_of, streams};
 
+use crate::compiling::compile;
 use crate::running::run;
 use crate::saying::{AnswerFault, say};
 use au_base::{Entry, Sink, Source, Status, put_all};
@@ -19,7 +20,7 @@ use std::alloc::Global;
 
 /// The line for words that are no job.
 pub const WORDS_LINE: &[u8] =
-    b"words: run [--entry=M:f] [--steps=N] [--life] PART.. | compile [--entry=M:f] PART.. | explain PART.. | check PART..\n";
+    b"words: run [--entry=M:f] [--steps=N] [--life] PART.. | compile [--entry=M:f] PART.. | explain PART.. | check PART.. | format FILE\n";
 
 /// The line for a program that is checked and accepted.
 const ACCEPTED_LINE: &[u8] = b"accepted\n";
@@ -29,7 +30,7 @@ const ACCEPTED_LINE: &[u8] = b"accepted\n";
 pub struct Asked {
     /// The names of its files.
     pub files: Vec<String>,
-    /// The entry of a run, if one is named.
+    /// The entry of a run or of C text, if one is named.
     pub entry: Option<Entry>,
     /// How many steps a run may take.
     pub steps: u64,
@@ -56,7 +57,7 @@ fn put_lives<O: Sink>(alloc: Global, lives: &Lives, out: &mut O) -> Result<Statu
 }
 
 /// Does what is due for an outcome: a line is written on `err`, or that the program is accepted or the lives
-/// of its variables on `out`, or the program is run.
+/// of its variables or the layout of its file on `out`, or the program is run or compiled.
 pub fn answer<I: Source, O: Sink, E: Sink>(
     alloc: Global,
     asked: &Asked,
@@ -85,6 +86,14 @@ pub fn answer<I: Source, O: Sink, E: Sink>(
           life = asked.now.life;
           program = program;
         })) }
+    ensures compiles { IfCompiles outcome.now (λ program. TextAnswers result
+        (streams I.Source O.Sink E.Sink input.old input.new out.old out.new err.old err.new)
+        (record {
+          named = asked.now.entry;
+          steps = asked.now.steps;
+          life = asked.now.life;
+          program = program;
+        }) × HasStayed (source_of I.Source input.old input.new)) }
 {
     match outcome {
         Outcome::NoJob => say(err, WORDS_LINE, Status::Words),
@@ -105,6 +114,11 @@ pub fn answer<I: Source, O: Sink, E: Sink>(
             Ok(Status::Success)
         }
         Outcome::Explained(lives) => put_lives(alloc, lives, out),
+        Outcome::Laid(text) => {
+            put_all(out, text.as_bytes())?;
+            Ok(Status::Success)
+        }
         Outcome::Runs(program) => run(alloc, asked, program, input, out, err),
+        Outcome::Compiles(program) => compile(alloc, asked, program, out, err),
     }
 }

@@ -4,21 +4,18 @@ ghost use Rattle.std.specs.Prelude.{◌≡◌};
 ghost use Rattle.au_words.specs.Jobs.{task_of};
 ghost use Rattle.au_top.specs.Jobs as asked;
 
-use au_outcomes::{Aim, Unbuilt};
+use au_outcomes::Aim;
 use au_words::{Command, Job};
 
 /// What a job asks of the program of its files.
-///
-/// # Errors
-///
-/// What the job asks for and that is not built yet: the command.
-pub fn asked_of(job: &Job) -> Result<Aim, Unbuilt>
+pub fn asked_of(job: &Job) -> Aim
     ensures { result ≡ asked.asked_of (task_of job.now) }
 {
     match job.command {
-        Command::Check => Ok(Aim::Check),
-        Command::Explain => Ok(Aim::Explain),
-        Command::Compile => Err(Unbuilt::Compile),
-        Command::Run => Ok(Aim::Run),
+        Command::Check => Aim::Check,
+        Command::Format => Aim::Format,
+        Command::Explain => Aim::Explain,
+        Command::Compile => Aim::Compile,
+        Command::Run => Aim::Run,
     }
 }

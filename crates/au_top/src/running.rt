@@ -119,7 +119,11 @@ fn line_of(alloc: Global, entry: Entry, steps: u64, ran: &Ran) -> Result<Vec<u8>
 }
 
 /// The line of a refusal that names no file.
-fn refused_line(alloc: Global, refusal: Refusal) -> Result<Vec<u8>, Memory>
+///
+/// # Errors
+///
+/// `Memory` when memory runs out.
+pub fn refused_line(alloc: Global, refusal: Refusal) -> Result<Vec<u8>, Memory>
     requires { IsTrue (is_refusal refusal) }
     ensures { IfOk result (λ line. line.items ≡ refusal_line [] refusal) }
 {

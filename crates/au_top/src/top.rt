@@ -3,10 +3,10 @@
 ghost use Rattle.std.specs.Prelude.{◌≡◌, IfOk, IsTrue, map};
 ghost use Rattle.std.specs.String.{string_bytes};
 ghost use Rattle.au_base.specs.Outside.{Files, Counts};
-ghost use Rattle.au_words.specs.Jobs.{IsJob, Task};
+ghost use Rattle.au_words.specs.Jobs.{IsJob, IsNoJob, Task};
 ghost use Rattle.au_top.specs.Calls.{FailsBehind, shelf_of};
 ghost use Rattle.au_outcomes.specs.Halts.{AreTold, is_read_fault, is_missing};
-ghost use Rattle.au_top.specs.Dues.{Arises, AsksForNoFile, AsksForTooMany};
+ghost use Rattle.au_top.specs.Dues.{Arises, AsksForTooMany};
 ghost use Rattle.au_top.specs.Ends.{FaultEnds, HasEnded, answer_ends};
 ghost use Rattle.au_top.specs.Promises.{Promises};
 ghost use Rattle.au_top.specs.Streams.{sink_of, streams};
@@ -15,8 +15,8 @@ use crate::answering::{Asked, answer};
 use crate::asking::asked_of;
 use crate::saying::{AnswerFault, READ_FAULT_LINE};
 use au_base::{Shelf, Sink, Source, Status, WriteFault, put_all};
-use au_outcomes::{CheckFault, Outcome, Refusal, check};
-use au_words::{Job, WordsFault, read_words};
+use au_outcomes::{CheckFault, Outcome, check};
+use au_words::{WordsFault, read_words};
 use std::alloc::Global;
 
 /// Does what the words ask for, with files from `shelf`, and writes to `out` and `err`. A program that is run
@@ -56,7 +56,7 @@ fn ended<S: Shelf, I: Source, O: Sink, E: Sink>(
       streams = streams I.Source O.Sink E.Sink input.old input.new out.old out.new err.old err.new;
       status = result;
     }) }
-    ensures idle { AsksForNoFile (map string_bytes words.now)
+    ensures idle { IsNoJob (map string_bytes words.now)
         → (S.faults shelf.new ≡ S.faults shelf.old) × (S.misses shelf.new ≡ S.misses shelf.old) }
     ensures crowded { AsksForTooMany (map string_bytes words.now)
         → (S.faults shelf.new ≡ S.faults shelf.old) × (S.misses shelf.new ≡ S.misses shelf.old) }
@@ -93,8 +93,7 @@ fn fault_status<E: Sink>(fault: CheckFault, err: &mut E) -> Status
 }
 
 /// What the words and the files come to, with what the words say of their program: first the words are
-/// read, and then the program of the files is checked. Where the words ask for something that is not
-/// built yet, no file is fetched.
+/// read, and then the program of the files is checked.
 fn outcome_of<S: Shelf>(
     alloc: Global,
     words: &[String],
@@ -109,7 +108,7 @@ fn outcome_of<S: Shelf>(
         (S.misses shelf.new)) }
     ensures stops { IsTrue (is_read_fault result)
         → FailsBehind (map string_bytes words.now) (S.files shelf.old) }
-    ensures idle { AsksForNoFile (map string_bytes words.now)
+    ensures idle { IsNoJob (map string_bytes words.now)
         → (S.faults shelf.new ≡ S.faults shelf.old) × (S.misses shelf.new ≡ S.misses shelf.old) }
     ensures crowded { AsksForTooMany (map string_bytes words.now)
         → (S.faults shelf.new ≡ S.faults shelf.old) × (S.misses shelf.new ≡ S.misses shelf.old) }
@@ -120,10 +119,7 @@ fn outcome_of<S: Shelf>(
         Err(WordsFault::NoJob) => return Ok((nothing_asked(alloc), Outcome::NoJob)),
         Err(WordsFault::Memory) => return Err(CheckFault::Memory),
     };
-    let aim = match asked_of(&job) {
-        Ok(aim) => aim,
-        Err(what) => return Ok((said_by(job), Outcome::Refused(Refusal::WordNotYet(what)))),
-    };
+    let aim = asked_of(&job);
     let names = job.files;
     let entry = job.entry;
     let steps = job.steps;
@@ -136,21 +132,6 @@ fn outcome_of<S: Shelf>(
         life,
     };
     Ok((asked, outcome))
-}
-
-/// What a job says of what is done with its program.
-fn said_by(job: Job) -> Asked
-    ensures files { result.files ≡ job.files }
-    ensures entry { result.entry ≡ job.entry }
-    ensures steps { result.steps ≡ job.steps }
-    ensures life { result.life ≡ job.life }
-{
-    Asked {
-        files: job.files,
-        entry: job.entry,
-        steps: job.steps,
-        life: job.life,
-    }
 }
 
 /// What words say that are no job.

@@ -16,9 +16,9 @@ use Rattle.clap.specs.declared.ArgMatches.TheViews.{out-ArgMatches}
 use Rattle.au_words.specs.Given.{AreGiven, Given, Shows, program}
 use Rattle.au_base.proofs.BoolLemmas.{cond_cases}
 use Rattle.au_words.specs.Jobs.{Said, Task, task_of, task_said, command_word, AreSaid, IsJob, IsNoJob}
-use Rattle.au_words.specs.Reading.{GivesTask, IsFound, command_at, said_at}
+use Rattle.au_words.specs.Reading.{GivesTask, IsFound, command_at, said_at, said_for}
 use Rattle.au_words.specs.declared.jobs.Command.{Command}
-use Rattle.au_words.specs.declared.jobs.Command.TheVariants.{Run, Compile, Explain, Check}
+use Rattle.au_words.specs.declared.jobs.Command.TheVariants.{Run, Compile, Explain, Check, Format}
 use Rattle.au_words.specs.declared.jobs.Job.{Job}
 use Rattle.au_words.specs.declared.jobs.WordsFault.{WordsFault}
 use Rattle.au_words.specs.declared.jobs.WordsFault.TheVariants.{NoJob, Memory}
@@ -26,7 +26,7 @@ use Rattle.au_words.proofs.LeafLemmas.{leaf_complete, leaf_sound}
 use Rattle.au_words.proofs.Leaves.{leaf_rows}
 use Rattle.au_words.proofs.PieceLemmas.{given_said, said_given}
 use Rattle.au_words.proofs.TopLemmas.{top_complete, top_rows, top_sound}
-use Rattle.au_words.proofs.ValueLemmas.{same_given}
+use Rattle.au_words.proofs.ValueLemmas.{said_again, said_to, same_given}
 
 -- the words of a program are text
 pub all_utf8 : (words : List (String Global)) → All IsUtf8 (map string_bytes words)
@@ -60,7 +60,11 @@ command_found word command h =
           | inr u ↦ elim (cond_cases (bytes_eq word (codes "check")) _ _ (Some command) u.1) [
             | inl t ↦ let same : Check ≡ command = (let e = t.1 in cc)
                 in subst Found same ((bytes_eq-Decides word (codes "check")).0 t.0)
-            | inr t ↦ absurd (let e = t.1 in cc)
+            | inr t ↦ elim (cond_cases (bytes_eq word (codes "format")) _ _ (Some command) t.1) [
+              | inl s ↦ let same : Format ≡ command = (let e = s.1 in cc)
+                  in subst Found same ((bytes_eq-Decides word (codes "format")).0 s.0)
+              | inr s ↦ absurd (let e = s.1 in cc)
+            ]
           ]
         ]
       ]
@@ -72,6 +76,7 @@ command_again Run = refl
 command_again Compile = refl
 command_again Explain = refl
 command_again Check = refl
+command_again Format = refl
 
 same_command : (command other : Command) → command_word command ≡ command_word other → command ≡ other
 same_command command other h =
@@ -100,14 +105,14 @@ one_given command words what other are are' =
 -- a command and what is behind it, of words that are a job
 pub given_by_job : (words rest : List (List ℕ)) (command : Command) (task : Task) →
     words ≡ command_word command ∷ rest → IsJob words task
-    → (what : Given) × (said : Said) × AreGiven command rest what × (said_at what ≡ Some said)
+    → (what : Given) × (said : Said) × AreGiven command rest what × (said_for command what ≡ Some said)
     × (task ≡ task_said command said)
 given_by_job words rest command task spelled (other, rest', said, spelled', are, same) =
     let alike = same_words words rest rest' command other spelled spelled' in
     let here : AreSaid command rest said = subst (λ c. AreSaid c rest said) alike.0
     (subst (λ l. AreSaid other l said) alike.1 are) in
     let given = said_given command rest said here in
-    (given.0, said, given.1, given.2, same ∙ ap (λ c. task_said c said) alike.0)
+    (given.0, said, given.1, said_again command given.0 said given.2 here.counted, same ∙ ap (λ c. task_said c said) alike.0)
 
 -- the command that was found, and what is given behind it
 pub found_so : (words : List (List ℕ)) (is : IsFound words (subcommand_of program words)) (found : ArgMatches)
@@ -150,22 +155,23 @@ unmatched words fails task (command, rest, said, spelled, are, same) =
 
 -- the job that is read is the one that is asked for
 pub job_asked : (words : List (List ℕ)) (found : Option (List ℕ × List Row)) (is : IsFound words found)
-    (result : Result Job WordsFault) → GivesTask is.0 result (said_at is.3)
+    (result : Result Job WordsFault) → GivesTask is.0 result (said_for is.0 is.3)
     → IfOk result (λ job. IsJob words (task_of job))
 job_asked words found is (Ok job) gives =
-    (is.0, is.1, gives.0, is.4, given_said is.0 is.1 is.3 gives.0 is.5 gives.1, gives.2)
+    let said = said_to is.0 (said_at is.3) gives.0 gives.1 in
+    (is.0, is.1, gives.0, is.4, given_said is.0 is.1 is.3 gives.0 is.5 said.0 said.1, gives.2)
 job_asked words found is (Err fault) gives = tt
 
 -- words in which no job is read ask for none
 pub no_job_asked : (words : List (List ℕ)) (found : Option (List ℕ × List Row)) (is : IsFound words found)
-    (result : Result Job WordsFault) → GivesTask is.0 result (said_at is.3)
+    (result : Result Job WordsFault) → GivesTask is.0 result (said_for is.0 is.3)
     → result ≡ Err NoJob → IsNoJob words
 no_job_asked words found is (Ok job) gives none = absurd (let e = none in cc)
 no_job_asked words found is (Err Memory) gives none = absurd (let e = none in cc)
 no_job_asked words found is (Err NoJob) gives none = λ task asks.
     let given = given_by_job words is.1 is.0 task is.4 asks in
     let same = one_given is.0 is.1 is.3 given.0 is.5 given.2 in
-    let both : Some given.1 ≡ None = sym given.3 ∙ ap said_at same ∙ gives in
+    let both : Some given.1 ≡ None = sym given.3 ∙ ap (said_for is.0) same ∙ gives in
     cc
 
 -- words ask for one job at most
@@ -174,6 +180,7 @@ one_job words task other (command, rest, said, spelled, are, is) job =
     let given = said_given command rest said are in
     let given' = given_by_job words rest command other spelled job in
     let same = one_given command rest given.0 given'.0 given.1 given'.2 in
-    let both : Some given'.1 ≡ Some said = sym given'.3 ∙ ap said_at same ∙ given.2 in
+    let both : Some given'.1 ≡ Some said = sym given'.3 ∙ ap (said_for command) same
+    ∙ said_again command given.0 said given.2 are.counted in
     let alike : given'.1 ≡ said = (let e = both in cc) in
     is ∙ (ap (task_said command) (sym alike) ∙ sym given'.4)

@@ -2,7 +2,7 @@
 use Rattle.std.proofs.Common.{◌≡◌, ◌≢◌, ◌∙◌, ℕ, ◌<◌, ◌^◌, Bool, true, false, not, ◌&&◌, List, [], ◌∷◌, ◌++◌}
 use Rattle.std.proofs.Common.{Option, None, Some, is_some, unwrap_or, option_to_list, map, flat_map, get_or}
 use Rattle.std.proofs.Common.{nat_eq, nat_lt, length, codes, decimal, ap, arith, eqb-true, inl, inr, refl}
-use Rattle.std.proofs.Common.{subst, sym}
+use Rattle.std.proofs.Common.{subst, sym, IsTrue}
 use Rattle.std.specs.List.{list_all}
 use Rattle.std.specs.Option.{option_and_then, option_map}
 use Rattle.std.proofs.lemmas.Bool.{and_parts, and_from, cases_Bool}
@@ -13,7 +13,7 @@ use Rattle.au_words.specs.Given.{Use, Given, AreGiven, Offers, WritesAll}
 use Rattle.au_words.specs.Jobs as asked
 use Rattle.au_words.specs.Jobs.{Piece, Said, AreSaid, IsPart, IsEntry, AreSteps, Gives, SpellsAll}
 use Rattle.au_words.specs.Jobs.{entry_spelling, is_dashed, is_keyword, is_marked, is_name, is_spelled_as_name}
-use Rattle.au_words.specs.Jobs.{joined}
+use Rattle.au_words.specs.Jobs.{joined, takes_files}
 use Rattle.au_words.specs.Reading.{part_at, entry_at, steps_at, files_at, optional, said_at}
 use Rattle.au_words.specs.declared.jobs.Command.{Command}
 use Rattle.au_base.specs.declared.names.Entry.{Entry}
@@ -287,8 +287,9 @@ optional_read read d (Some bytes) found h =
 
 -- what is given and read is said
 pub given_said : (command : Command) (words : List (List ℕ)) (what : Given) (said : Said) →
-    AreGiven command words what → said_at what ≡ Some said → AreSaid command words said
-given_said command words what said are h =
+    AreGiven command words what → said_at what ≡ Some said → IsTrue (takes_files command (length said.files))
+    → AreSaid command words said
+given_said command words what said are h counted =
     let read = said_parts what said h in
     let uses : List Use = are.uses in
     let files = files_read what.parts said.files read.0 in
@@ -309,6 +310,7 @@ given_said command words what said are h =
         sym (ap asked.given read.3) ∙ are.life ∙ sym (lives_of_pieces uses),
       );
       some = files_some what.parts said.files are.some read.0;
+      counted = counted;
     }
 
 -- ---- what is given for pieces

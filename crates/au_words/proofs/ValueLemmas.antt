@@ -1,12 +1,14 @@
 -- The job of a command, from the values in what is given.
 use Rattle.std.proofs.Common.{◌≡◌, ◌↔◌, ◌∙◌, ℕ, Bool, true, false, List, Option, None, Some, IsTrue, ap}
-use Rattle.std.proofs.Common.{codes, refl, sym}
+use Rattle.std.proofs.Common.{codes, length, refl, subst, sym}
+use Rattle.std.specs.Prelude.{if◌then◌else◌}
 use Rattle.std.specs.Option.{option_and_then, option_map, unwrap_or}
 use Rattle.std.specs.Str.Parse.{ParsesBool}
 use Rattle.clap.specs.Matches.{ReadsOne}
 use Rattle.au_words.specs.Given.{Given}
-use Rattle.au_words.specs.Jobs.{Said}
-use Rattle.au_words.specs.Reading.{entry_at, files_at, optional, said_at, steps_at}
+use Rattle.au_words.specs.Jobs.{Said, takes_files}
+use Rattle.au_words.specs.Reading.{counted_for, entry_at, files_at, optional, said_at, said_for, steps_at}
+use Rattle.au_words.specs.declared.jobs.Command.{Command}
 use Rattle.au_base.specs.declared.names.Entry.{Entry}
 
 -- what is said, by what is read
@@ -51,6 +53,29 @@ pub said_parts : (what : Given) (said : Said) → said_at what ≡ Some said
 said_parts what said h =
     parts_by what.life (files_at what.parts) (optional entry_at what.entry) (optional steps_at what.steps)
     said (sym (said_read what) ∙ h)
+
+-- what is said to a command is what is said, and the command takes so many files
+counted_by : (command : Command) (said other : Said) (takes : Bool) → takes_files command (length said.files) ≡ takes →
+    (if takes then Some said else None) ≡ Some other → (said ≡ other) × IsTrue (takes_files command (length other.files))
+counted_by command said other true is h =
+    let same : said ≡ other = (let e = h in cc) in
+    (same, subst (λ (s : Said). IsTrue (takes_files command (length s.files))) same is)
+counted_by command said other false is h = absurd (let e = h in cc)
+
+pub said_to : (command : Command) (found : Option Said) (said : Said) → option_and_then (counted_for command) found
+    ≡ Some said → (found ≡ Some said) × IsTrue (takes_files command (length said.files))
+unfolding counted_for
+said_to command None said h = absurd (let e = h in cc)
+said_to command (Some one) said h =
+    let both = counted_by command one said _ refl h in
+    (ap (λ s. Some s) both.0, both.1)
+
+-- what is said is said to a command that takes so many files
+pub said_again : (command : Command) (what : Given) (said : Said) → said_at what ≡ Some said
+    → IsTrue (takes_files command (length said.files)) → said_for command what ≡ Some said
+unfolding counted_for
+said_again command what said is takes =
+    ap (option_and_then (counted_for command)) is ∙ ap (λ (b : Bool). if b then Some said else None) takes
 
 -- an option that is read as a `bool`
 pub life_read : (E : Type 0) (read : Option (List ℕ)) (result : Option Bool) → (read ≡ None → result ≡ None)

@@ -11,7 +11,7 @@ use Rattle.clap.specs.Walk.{Row, Rule, first_of, all_of, one_of}
 use Rattle.clap.specs.declared.builder.action.ArgAction.TheVariants.{Append, Set, SetTrue}
 use Rattle.au_words.specs.Jobs.{command_word, is_marked, is_run, takes_entry, given}
 use Rattle.au_words.specs.declared.jobs.Command.{Command}
-use Rattle.au_words.specs.declared.jobs.Command.TheVariants.{Run, Compile, Explain, Check}
+use Rattle.au_words.specs.declared.jobs.Command.TheVariants.{Run, Compile, Explain, Check, Format}
 
 -- What words behind the command are, by their texts: a part, the value of `--entry` or of `--steps`,
 -- the option `--life`, or the mark `--`.
@@ -146,6 +146,7 @@ arguments Run = part_argument ∷ entry_argument ∷ steps_argument ∷ life_arg
 arguments Compile = part_argument ∷ entry_argument ∷ []
 arguments Explain = part_argument ∷ []
 arguments Check = part_argument ∷ []
+arguments Format = part_argument ∷ []
 
 -- a command
 abbrev pub subcommand : Command → Shape
@@ -163,7 +164,7 @@ program_top = record (new_shape (codes "austral")) {
 
 -- the command line
 abbrev pub program : App
-program = record { top = program_top; subs = map subcommand (Run ∷ Compile ∷ Explain ∷ Check ∷ []) }
+program = record { top = program_top; subs = map subcommand (Run ∷ Compile ∷ Explain ∷ Check ∷ Format ∷ []) }
 
 -- What the library found in words is what they give.
 pub record Shows (rows : List Row) (what : Given) : Type 0 where

@@ -1,9 +1,10 @@
 -- The jobs of a command line, and how words spell them.
 --
 -- Words are the command line without the program's name. The first word is the command: `run`,
--- `compile`, `explain` or `check`. Behind it stand parts and options in any order: at least one part,
--- and each option at most once. `run` takes `--entry=M:f`, `--steps=N` and `--life`, `compile` takes
--- `--entry=M:f`, and the others take none. No option is abbreviated, and there is no other.
+-- `compile`, `explain`, `check` or `format`. Behind it stand parts and options in any order: at least one
+-- part, and each option at most once. `run` takes `--entry=M:f`, `--steps=N` and `--life`, `compile` takes
+-- `--entry=M:f`, and the others take none. No option is abbreviated, and there is no other. `format` takes
+-- one file name and no more.
 --
 -- The value of `--entry` and of `--steps` stands behind `=` in the same word, or is the next word, which
 -- then doesn't begin with `-`. `--life` has no value. A part is one file name or more with single commas
@@ -25,7 +26,7 @@ use Rattle.au_base.specs.declared.tokens.Keyword.{Keyword}
 use Rattle.au_base.specs.Tokens.{keywords, keyword_spelling}
 use Rattle.au_lexer.specs.Bytes.{is_letter, is_name_byte}
 use Rattle.au_words.specs.declared.jobs.Command.{Command}
-use Rattle.au_words.specs.declared.jobs.Command.TheVariants.{Run, Compile, Explain, Check}
+use Rattle.au_words.specs.declared.jobs.Command.TheVariants.{Run, Compile, Explain, Check, Format}
 use Rattle.au_base.specs.declared.names.Entry.{Entry}
 use Rattle.au_words.specs.declared.jobs.Job.{Job}
 
@@ -64,6 +65,7 @@ command_word Run = codes "run"
 command_word Compile = codes "compile"
 command_word Explain = codes "explain"
 command_word Check = codes "check"
+command_word Format = codes "format"
 
 -- whether a command takes `--entry`
 abbrev pub takes_entry : Command → Bool
@@ -71,6 +73,7 @@ takes_entry Run = true
 takes_entry Compile = true
 takes_entry Explain = false
 takes_entry Check = false
+takes_entry Format = false
 
 -- whether a command takes `--steps` and `--life`
 abbrev pub is_run : Command → Bool
@@ -78,6 +81,15 @@ is_run Run = true
 is_run Compile = false
 is_run Explain = false
 is_run Check = false
+is_run Format = false
+
+-- whether a command takes so many files: `format` takes one
+abbrev pub takes_files : Command → ℕ → Bool
+takes_files Run count = true
+takes_files Compile count = true
+takes_files Explain count = true
+takes_files Check count = true
+takes_files Format count = count == 1
 
 -- whether a byte is another than a sign
 abbrev pub is_other : ℕ → ℕ → Bool
@@ -266,13 +278,15 @@ task_said command said =
       life = said.life;
     }
 
--- The words behind a command say this: they are pieces that the command takes, a part among them.
+-- The words behind a command say this: they are pieces that the command takes, a part among them, and it takes
+-- so many files.
 pub record AreSaid (command : Command) (words : List (List ℕ)) (said : Said) : Type 0 where
   pub pieces : List Piece
   pub spelled : SpellsAll false pieces words
   pub taken : IsTrue (list_all (takes command) pieces)
   pub says : Says pieces said
   pub some : said.files ≢ []
+  pub counted : IsTrue (takes_files command (length said.files))
 
 -- The words ask for this.
 abbrev pub IsJob : List (List ℕ) → Task → Type 0

@@ -12,9 +12,10 @@ use Rattle.au_base.specs.Limits.{most_name_bytes}
 use Rattle.au_lexer.specs.Bytes.{is_digit}
 use Rattle.clap.specs.Walk.{Row}
 use Rattle.au_words.specs.Given.{AreGiven, Given, Shows}
-use Rattle.au_words.specs.Jobs.{Said, command_word, task_of, task_said, is_other, is_name, most_steps}
+use Rattle.au_words.specs.Jobs.{Said, command_word, task_of, task_said, takes_files}
+use Rattle.au_words.specs.Jobs.{is_other, is_name, most_steps}
 use Rattle.au_words.specs.declared.jobs.Command.{Command}
-use Rattle.au_words.specs.declared.jobs.Command.TheVariants.{Run, Compile, Explain, Check}
+use Rattle.au_words.specs.declared.jobs.Command.TheVariants.{Run, Compile, Explain, Check, Format}
 use Rattle.au_base.specs.declared.names.Entry.{Entry}
 use Rattle.au_words.specs.declared.jobs.Job.{Job}
 use Rattle.au_words.specs.declared.jobs.WordsFault.{WordsFault}
@@ -102,6 +103,14 @@ said_at what =
     record { files = names; entry = value; steps = count; life = what.life })
     (optional steps_at what.steps)) (optional entry_at what.entry)) (files_at what.parts)
 
+-- what is said, if the command takes so many files
+unfoldable pub counted_for : Command → Said → Option Said
+counted_for command said = if takes_files command (length said.files) then Some said else None
+
+-- what is said to a command by what is given
+abbrev pub said_for : Command → Given → Option Said
+said_for command what = option_and_then (counted_for command) (said_at what)
+
 -- the command that a word is
 unfoldable pub command_at : List ℕ → Option Command
 command_at word =
@@ -109,7 +118,8 @@ command_at word =
     else (if bytes_eq word (codes "compile") then Some Compile
     else (if bytes_eq word (codes "explain") then Some Explain
     else (if bytes_eq word (codes "check") then Some Check
-    else None)))
+    else (if bytes_eq word (codes "format") then Some Format
+    else None))))
 
 -- What is found in words: the word of a command, and what the words behind it give.
 abbrev pub IsFound : List (List ℕ) → Option (List ℕ × List Row) → Type 0

@@ -16,6 +16,8 @@ pub enum Command {
     Explain,
     /// Say whether it is refused.
     Check,
+    /// Lay out a file.
+    Format,
 }
 
 /// A command, and what it is to work on.

@@ -87,6 +87,14 @@ fn check_command<'a>(alloc: Global) -> Result<clap::Command<'a>, AllocError>
     clap::Command::new(alloc, "check").arg(part_argument(alloc))
 }
 
+/// `format`.
+fn format_command<'a>(alloc: Global) -> Result<clap::Command<'a>, AllocError>
+    ensures shape { IfOk result (λ c. shape_of c ≡ given.subcommand command.Format) }
+    ensures local { IfOk result (λ c. (fields_of c).has_globals ≡ false) }
+{
+    clap::Command::new(alloc, "format").arg(part_argument(alloc))
+}
+
 /// The commands, their parts and their options. There is no help, and no name of the program.
 pub fn program<'a>(alloc: Global) -> Result<clap::Command<'a>, AllocError>
     ensures { IfOk result (λ c. app_of c ≡ given.program) }
@@ -99,5 +107,6 @@ pub fn program<'a>(alloc: Global) -> Result<clap::Command<'a>, AllocError>
         .subcommand(run_command(alloc)?)?
         .subcommand(compile_command(alloc)?)?
         .subcommand(explain_command(alloc)?)?
-        .subcommand(check_command(alloc)?)
+        .subcommand(check_command(alloc)?)?
+        .subcommand(format_command(alloc)?)
 }

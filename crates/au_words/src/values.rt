@@ -3,6 +3,7 @@
 ghost use Rattle.std.specs.Prelude.{◌≡◌, ◌↔◌, IsTrue, Some, codes, map, option_map};
 ghost use Rattle.clap.specs.Words.{found_of, one_of, rows_of};
 ghost use Rattle.au_words.specs.Given as given;
+ghost use Rattle.au_words.specs.Jobs as asked;
 ghost use Rattle.au_words.specs.Reading as read;
 
 use crate::counts::steps;
@@ -47,8 +48,18 @@ fn optional_steps(value: Option<&str>) -> Result<Option<u64>, WordsFault>
     }
 }
 
+/// Whether a command takes so many files.
+fn takes_files(command: Command, count: usize) -> bool
+    ensures { result ≡ asked.takes_files command count }
+{
+    match command {
+        Command::Format => count == 1,
+        Command::Run | Command::Compile | Command::Explain | Command::Check => true,
+    }
+}
+
 /// The job of a command, by the texts that are given.
-#[tactic(auto, unfolding(crate::specs::Reading::said_at))]
+#[tactic(auto, unfolding(crate::specs::Reading::said_at, crate::specs::Reading::counted_for))]
 fn task(
     alloc: Global,
     command: Command,
@@ -57,7 +68,7 @@ fn task(
     steps: Option<&str>,
     life: bool,
 ) -> Result<Job, WordsFault>
-    ensures { read.GivesTask command result (read.said_at (record {
+    ensures { read.GivesTask command result (read.said_for command (record {
       parts = map (λ part. part.now) parts.now;
       entry = option_map (λ text. text.now) entry.entry;
       steps = option_map (λ text. text.now) steps.entry;
@@ -67,6 +78,9 @@ fn task(
     let files = files(alloc, parts)?;
     let entry = optional_entry(alloc, entry)?;
     let steps = optional_steps(steps)?;
+    if !takes_files(command, files.len()) {
+        return Err(WordsFault::NoJob);
+    }
     Ok(Job {
         command,
         files,
@@ -87,7 +101,7 @@ fn has_life(found: &ArgMatches) -> bool
 /// The job of a command, from what was found behind it.
 pub fn job(alloc: Global, command: Command, found: &ArgMatches) -> Result<Job, WordsFault>
     ensures { (what : given.Given) → given.Shows (rows_of (found_of found.now)) what
-        → read.GivesTask command result (read.said_at what) }
+        → read.GivesTask command result (read.said_for command what) }
 {
     let Some(parts) = found.get_strs("part") else {
         return Err(WordsFault::NoJob);

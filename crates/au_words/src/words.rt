@@ -28,6 +28,8 @@ fn command(word: &str) -> Option<Command>
         Some(Command::Explain)
     } else if word == "check" {
         Some(Command::Check)
+    } else if word == "format" {
+        Some(Command::Format)
     } else {
         None
     }
@@ -49,7 +51,7 @@ fn found_in<'a>(alloc: Global, words: &'a [String]) -> Result<ArgMatches<'a>, Wo
 fn job_of(alloc: Global, word: &str, behind: &ArgMatches) -> Result<Job, WordsFault>
     ensures { (asked : Command) (what : given.Given) → word.now ≡ command_word asked
         → given.Shows (rows_of (found_of behind.now)) what
-        → read.GivesTask asked result (read.said_at what) }
+        → read.GivesTask asked result (read.said_for asked what) }
 {
     match command(word) {
         Some(command) => job(alloc, command, behind),

@@ -21,7 +21,7 @@ returns-in-Err-NoEntry-clause-ran g c =
     let owner = c.args.entry.now.«module» in
     let name = c.args.entry.now.function in
     let has = subst (λ (e : Uncoded). (noted : List NotedParts) × IsDerived program noted
-    × HasCode program noted owner name (Err e)) c.in-Err-NoEntry.field-0-is c.in-Err-NoEntry.ensures in
+    × HasCode program noted owner name (Err e)) c.in-Err-NoEntry.field-0-is c.in-Err-NoEntry.ensures.is in
     (has.0, has.1, (has.2, (refl, refl), search rules))
 
 pub returns-in-Err-Limit-clause-ran : goal.returns-in-Err-Limit-clause-ran
@@ -30,7 +30,7 @@ returns-in-Err-Limit-clause-ran g c =
     let owner = c.args.entry.now.«module» in
     let name = c.args.entry.now.function in
     let has = subst (λ (e : Uncoded). (noted : List NotedParts) × IsDerived program noted
-    × HasCode program noted owner name (Err e)) c.in-Err-Limit.field-0-is c.in-Err-Limit.ensures in
+    × HasCode program noted owner name (Err e)) c.in-Err-Limit.field-0-is c.in-Err-Limit.ensures.is in
     (has.0, has.1, (has.2, (refl, refl), search rules))
 
 pub returns-in-Ok-clause-ran : goal.returns-in-Ok-clause-ran
@@ -42,7 +42,7 @@ returns-in-Ok-clause-ran g c =
     let left = g.I.Source.left c.run_code.new.input in
     let out = g.O.Sink.written c.args.out.now in
     let out' = g.O.Sink.written c.run_code.new.out in
-    let has = c.in-Ok.ensures in
+    let has = c.in-Ok.ensures.is in
     IfOk-weaker c.run_code.result
     (λ (report : Report). CodeEnds c.in-Ok.code c.args.life report.ran report.events.items c.args.steps told
     left out out')
@@ -67,7 +67,7 @@ returns-in-Ok-clause-broken g c =
     let left = g.I.Source.left c.run_code.new.input in
     let out = g.O.Sink.written c.args.out.now in
     let out' = g.O.Sink.written c.run_code.new.out in
-    let has = c.in-Ok.ensures in
+    let has = c.in-Ok.ensures.is in
     on_err_weaker {P = IsCut (low_run false c.in-Ok.code) c.args.steps told out out'}
     {Q = IsIdle told left out out' ⊎ ((noted : List NotedParts) × IsDerived program noted
     × ProgramIsCut program noted owner name c.args.steps told out out')} c.run_code.result

@@ -23,7 +23,7 @@ returns-in-Ok-clause-ends g c =
     (map string_bytes c.in-Ok.asked.files.items) c.in-Ok.outcome c.in-Ok.asked.entry c.in-Ok.asked.steps c.in-Ok.asked.life
     c.in-Ok.ensures.arises c.in-Ok.ensures.asked c.in-Ok.ensures.faults c.in-Ok.ensures.misses
     c.answer.ensures.pays c.answer.ensures.quiet c.answer.ensures.fails c.answer.ensures.kept
-    c.answer.ensures.runs
+    c.answer.ensures.runs c.answer.ensures.compiles
     c.status_of.result c.status_of.ensures
 
 pub returns-in-Err-clause-ends : goal.returns-in-Err-clause-ends

@@ -18,5 +18,7 @@ returns c =
     ∙ ap₂ with_subcommand with_run c.in_ok-compile_command.ensures.shape in
     let with_explain = c.in_ok-subcommand-3.ensures.shape c.in_ok-explain_command.ensures.local
     ∙ ap₂ with_subcommand with_compile c.in_ok-explain_command.ensures.shape in
-    IfOk-weaker c.subcommand-4.result _ _ (λ r added. added.shape c.in_ok-check_command.ensures.local
-    ∙ ap₂ with_subcommand with_explain c.in_ok-check_command.ensures.shape) c.subcommand-4.ensures
+    let with_check = c.in_ok-subcommand-4.ensures.shape c.in_ok-check_command.ensures.local
+    ∙ ap₂ with_subcommand with_explain c.in_ok-check_command.ensures.shape in
+    IfOk-weaker c.subcommand-5.result _ _ (λ r added. added.shape c.in_ok-format_command.ensures.local
+    ∙ ap₂ with_subcommand with_check c.in_ok-format_command.ensures.shape) c.subcommand-5.ensures

@@ -2,7 +2,7 @@
 use Rattle.std.proofs.Common.{◌≡◌, ◌∙◌, None, Some, codes, map, option_map, subst}
 use Rattle.clap.specs.Words.{found_of}
 use Rattle.clap.proofs.WalkLemmas.{first_value-rows, raw_values-rows}
-use Rattle.au_words.specs.Reading.{GivesTask, said_at}
+use Rattle.au_words.specs.Reading.{GivesTask, said_for}
 use Rattle.au_words.proofs.ValueLemmas.{same_given}
 use Rattle.au_words.proofs.values.job.Goals as goal
 
@@ -22,4 +22,4 @@ returns c = λ what shows.
     (c.get_str-entry.ensures ∙ first_value-rows found (codes "entry") ∙ shows.entry)
     (c.get_str-steps.ensures ∙ first_value-rows found (codes "steps") ∙ shows.steps)
     c.has_life.ensures shows.life in
-    subst (λ g. GivesTask c.args.command c.task.result (said_at g)) same c.task.ensures
+    subst (λ g. GivesTask c.args.command c.task.result (said_for c.args.command g)) same c.task.ensures

@@ -1,0 +1,4 @@
+pub mod KnownLemmas
+pub mod CallLemmas
+pub mod NotedLemmas
+pub mod ScopeLemmas

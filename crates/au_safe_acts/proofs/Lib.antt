@@ -1,0 +1,9 @@
+pub mod GoodLemmas
+pub mod NameLemmas
+pub mod CloseLemmas
+pub mod LendLemmas
+pub mod CallLemmas
+pub mod MakeLemmas
+pub mod BehindLemmas
+pub mod EnterLemmas
+pub mod TellLemmas

@@ -1,0 +1,9 @@
+pub mod Good
+pub mod Naming
+pub mod Closing
+pub mod Lending
+pub mod Calling
+pub mod Making
+pub mod Behind
+pub mod Entering
+pub mod Telling

@@ -1,0 +1,3 @@
+pub mod OperatedLemmas
+pub mod NamedLemmas
+pub mod ShippedLemmas

@@ -1,0 +1,3 @@
+pub mod Shipped
+pub mod Operated
+pub mod Named

@@ -1,0 +1,9 @@
+pub mod OrderLemmas
+pub mod NamedLemmas
+pub mod ComingLemmas
+pub mod FillingLemmas
+pub mod ReachingLemmas
+pub mod RegionLemmas
+pub mod AnsweringLemmas
+pub mod BeginningLemmas
+pub mod LeavingLemmas

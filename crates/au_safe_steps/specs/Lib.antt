@@ -1,0 +1,9 @@
+pub mod Orders
+pub mod Binding
+pub mod Coming
+pub mod Filling
+pub mod Reaching
+pub mod Regions
+pub mod Answering
+pub mod Beginning
+pub mod Leaving

@@ -1,0 +1,5 @@
+pub mod CloseLemmas
+pub mod FrameLemmas
+pub mod CallLemmas
+pub mod MainLemmas
+mod WireLemmas

@@ -1,0 +1,9 @@
+pub mod FrameLemmas
+pub mod StateLemmas
+pub mod FormLemmas
+pub mod LeaveLemmas
+pub mod AssignLemmas
+pub mod LoopLemmas
+pub mod LendLemmas
+pub mod CaseLemmas
+pub mod RunLemmas

@@ -1,0 +1,10 @@
+pub mod HoldLemmas
+pub mod WaitLemmas
+pub mod LeafLemmas
+pub mod ActLemmas
+pub mod JoinLemmas
+pub mod OperatorLemmas
+pub mod PickLemmas
+pub mod EvalLemmas
+pub mod WholeLemmas
+pub mod LawLemmas

@@ -1,0 +1,108 @@
+-- Names wait for tokens that are active: so a token that begins is new to them, and one that ends leaves the others.
+use Rattle.std.proofs.Common.{◌≡◌, ℕ, ◌==◌, Bool, true, false, List, [], ◌∷◌, refl, ap, ap₂, ◌∙◌}
+use Rattle.std.proofs.Common.{if◌then◌else◌}
+use Rattle.std.proofs.lemmas.Bool.{eqb-true}
+use Rattle.au_base.proofs.BoolLemmas.{never_both}
+use Rattle.au_memory.specs.Forests as forest
+use Rattle.au_memory.specs.Forests.{Hold, empty, shut, watched}
+use Rattle.au_lending.specs.Ending.{freed, left_watched, others_of}
+use Rattle.au_borrows.specs.Orders.{Act, is_active}
+use Rattle.au_frames.specs.Frames.{Frame}
+use Rattle.au_safe_acts.specs.Closing.{freed_frame, freed_frames}
+use Rattle.au_running_judgements.specs.Known.{AreActive}
+use Rattle.au_sound_expressions.specs.Safe.{AllWait, Waits}
+
+-- ---- a token that isn't active
+
+others_stay : (active : ℕ → Bool) (z : ℕ) (zs : List ℕ) → AreActive active zs → active z ≡ false → others_of z zs ≡ zs
+others_stay active z [] are off = refl
+others_stay active z (y ∷ zs) are off = by (z == y) refl (others_stay active z zs are.1 off)
+  where
+    by : (b : Bool) → (z == y) ≡ b → others_of z zs ≡ zs
+        → (if b then others_of z zs else y ∷ others_of z zs) ≡ y ∷ zs
+    by true same rest = never_both (active z) (ap active (eqb-true z y same) ∙ are.0) off
+    by false same rest = ap (λ (xs : List ℕ). y ∷ xs) rest
+
+-- no name waits for it
+pub fresh : (active : ℕ → Bool) (z : ℕ) (h : Hold) → Waits active h → active z ≡ false → freed z h ≡ h
+fresh active z empty waits off = refl
+fresh active z forest.ready waits off = refl
+fresh active z (shut y) waits off = by (z == y) refl
+  where
+    by : (b : Bool) → (z == y) ≡ b → (if b then forest.ready else shut y) ≡ shut y
+    by true same = never_both (active z) (ap active (eqb-true z y same) ∙ waits) off
+    by false same = refl
+fresh active z (watched []) waits off = absurd waits
+fresh active z (watched (y ∷ zs)) waits off = ap left_watched (others_stay active z (y ∷ zs) waits off)
+
+frame_stays : (active : ℕ → Bool) (z : ℕ) (f : Frame) → ((k : ℕ) → Waits active (f.hold k)) → active z ≡ false
+    → freed_frame z f ≡ f
+frame_stays active z f waits off =
+    let same : (k : ℕ) → freed z (f.hold k) ≡ f.hold k = λ k. fresh active z (f.hold k) (waits k) off in
+    λ i. record { hold = λ k. same k i; type = f.type }
+
+pub frames_stay : (active : ℕ → Bool) (z : ℕ) (fs : List Frame) → AllWait active fs → active z ≡ false
+    → freed_frames z fs ≡ fs
+frames_stay active z [] waits off = refl
+frames_stay active z (f ∷ fs) waits off =
+    ap₂ (λ (g : Frame) (gs : List Frame). g ∷ gs) (frame_stays active z f waits.0 off)
+    (frames_stay active z fs waits.1 off)
+
+-- ---- more tokens
+
+pub are_more : (one two : ℕ → Bool) → ((z : ℕ) → one z ≡ true → two z ≡ true) → (zs : List ℕ) → AreActive one zs
+    → AreActive two zs
+are_more one two more [] are = tt
+are_more one two more (z ∷ zs) are = (more z are.0, are_more one two more zs are.1)
+
+pub waits_more : (one two : ℕ → Bool) → ((z : ℕ) → one z ≡ true → two z ≡ true) → (h : Hold) → Waits one h
+    → Waits two h
+waits_more one two more empty waits = tt
+waits_more one two more forest.ready waits = tt
+waits_more one two more (shut z) waits = more z waits
+waits_more one two more (watched []) waits = absurd waits
+waits_more one two more (watched (z ∷ zs)) waits = are_more one two more (z ∷ zs) waits
+
+pub all_more : (one two : ℕ → Bool) → ((z : ℕ) → one z ≡ true → two z ≡ true) → (fs : List Frame) → AllWait one fs
+    → AllWait two fs
+all_more one two more [] waits = tt
+all_more one two more (f ∷ fs) waits =
+    (λ k. waits_more one two more (f.hold k) (waits.0 k), all_more one two more fs waits.1)
+
+-- one token more is active
+pub active_more : (a : Act) (older : List Act) (z : ℕ) → is_active older z ≡ true → is_active (a ∷ older) z ≡ true
+active_more a older z is = by (a.token == z)
+  where
+    by : (b : Bool) → (if b then true else is_active older z) ≡ true
+    by true = refl
+    by false = is
+
+-- ---- the newest token ends
+
+left_waits : (active : ℕ → Bool) (zs : List ℕ) → AreActive active zs → Waits active (left_watched zs)
+left_waits active [] are = tt
+left_waits active (z ∷ zs) are = are
+
+others_active : (a : Act) (older : List Act) (zs : List ℕ) → AreActive (is_active (a ∷ older)) zs
+    → AreActive (is_active older) (others_of a.token zs)
+others_active a older [] are = tt
+others_active a older (z ∷ zs) are = by (a.token == z) are.0 (others_active a older zs are.1)
+  where
+    by : (b : Bool) → (if b then true else is_active older z) ≡ true → AreActive (is_active older) (others_of a.token zs)
+        → AreActive (is_active older) (if b then others_of a.token zs else z ∷ others_of a.token zs)
+    by true is rest = rest
+    by false is rest = (is, rest)
+
+pub waits_freed : (a : Act) (older : List Act) (h : Hold) → Waits (is_active (a ∷ older)) h
+    → Waits (is_active older) (freed a.token h)
+waits_freed a older empty waits = tt
+waits_freed a older forest.ready waits = tt
+waits_freed a older (shut y) waits = by (a.token == y) waits
+  where
+    by : (b : Bool) → (if b then true else is_active older y) ≡ true
+        → Waits (is_active older) (if b then forest.ready else shut y)
+    by true is = tt
+    by false is = is
+waits_freed a older (watched []) waits = absurd waits
+waits_freed a older (watched (y ∷ zs)) waits =
+    left_waits (is_active older) (others_of a.token (y ∷ zs)) (others_active a older (y ∷ zs) waits)

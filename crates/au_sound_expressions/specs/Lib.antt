@@ -1,0 +1,3 @@
+pub mod Safe
+pub mod Actions
+pub mod Laws
