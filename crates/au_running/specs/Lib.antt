@@ -1,3 +1,4 @@
+pub use Rattle.au_lowering.specs.Closed
 pub use Rattle.au_closed_programs.specs.Programs
 pub mod Once
 pub mod Meant

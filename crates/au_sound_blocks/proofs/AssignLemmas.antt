@@ -16,8 +16,8 @@ use Rattle.au_memory.specs.Forests.{Hold, Made, empty}
 use Rattle.au_memory.specs.Loans.{Types}
 use Rattle.au_lending.specs.Laws.{IsReadable}
 use Rattle.au_lending.specs.Records.{onto, types_made}
-use Rattle.au_borrows.specs.Orders.{Act, is_active}
-use Rattle.au_frames.specs.Frames.{Frame}
+use Rattle.au_sound_expressions.specs.Orders.{Act, is_active}
+use Rattle.au_sound_expressions.specs.Frames.{Frame}
 use Rattle.au_meaning.specs.Acts.{apart, puts, refers, sets}
 use Rattle.au_meaning.specs.Expressions.{note_of, whole}
 use Rattle.au_meaning.specs.Names.{Scope, Variable, path_numbers}
@@ -26,14 +26,14 @@ use Rattle.au_meaning.specs.Statements.{takes_apart}
 use Rattle.au_meaning.specs.Ticks.{Action, follows, needing, pure, tick, where_true, ◌>>=◌, ◌>>◌}
 use Rattle.au_meaning.specs.Views.{Field, View}
 use Rattle.au_meaning.specs.Worlds.{Value, World}
-use Rattle.au_safe_acts.specs.Good.{Good, IsIn, IsRunning, lying_in}
-use Rattle.au_safe_acts.specs.Making.{values_of}
-use Rattle.au_safe_acts.proofs.GoodLemmas.{good_needing, good_then}
-use Rattle.au_running_judgements.specs.Blocks.{AreBound, IsWholeOf, Names, with_types}
-use Rattle.au_running_judgements.specs.Expressions.{IsNamed, LooksInto, Reaches}
-use Rattle.au_running_judgements.specs.Known.{Callables, InScope}
-use Rattle.au_running_judgements.specs.Lives.{AreReady, Standing, Steps, after_whole, put_each, stand}
-use Rattle.au_running_judgements.specs.Uses.{uses, where_of}
+use Rattle.au_sound_expressions.specs.Good.{Good, IsIn, IsRunning, lying_in}
+use Rattle.au_sound_expressions.specs.Making.{values_of}
+use Rattle.au_sound_expressions.proofs.GoodLemmas.{good_needing, good_then}
+use Rattle.au_sound_expressions.specs.Blocks.{AreBound, IsWholeOf, Names, with_types}
+use Rattle.au_sound_expressions.specs.Expressions.{IsNamed, LooksInto, Reaches}
+use Rattle.au_sound_expressions.specs.Known.{Callables, InScope}
+use Rattle.au_sound_expressions.specs.Lives.{AreReady, Standing, Steps, after_whole, put_each, stand}
+use Rattle.au_sound_expressions.specs.Uses.{uses, where_of}
 use Rattle.au_sound_expressions.specs.Safe.{AllWait, CallsSafe, frame}
 use Rattle.au_sound_expressions.proofs.HoldLemmas.{is_readable, is_ready, plus_nothing, where_own}
 use Rattle.au_sound_expressions.proofs.LeafLemmas.{good_where}

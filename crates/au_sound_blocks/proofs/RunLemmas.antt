@@ -17,8 +17,8 @@ use Rattle.au_memory.specs.Loans.{Types}
 use Rattle.au_memory.specs.Shown.{IsPlain}
 use Rattle.au_lending.specs.Ending.{freed}
 use Rattle.au_lending.specs.Records.{onto, types_made}
-use Rattle.au_borrows.specs.Orders.{Act, is_active}
-use Rattle.au_frames.specs.Frames.{Frame}
+use Rattle.au_sound_expressions.specs.Orders.{Act, is_active}
+use Rattle.au_sound_expressions.specs.Frames.{Frame}
 use Rattle.au_meaning.specs.Acts.{holds, with_value}
 use Rattle.au_meaning.specs.Expressions.{names_of, note_of}
 use Rattle.au_meaning.specs.Names.{Scope, Variable, mode_of, names_in, names_in_arms, names_in_block, names_in_tests}
@@ -29,14 +29,14 @@ use Rattle.au_meaning.specs.Statements as statement
 use Rattle.au_meaning.specs.Ticks.{Action, pure, ◌>>◌}
 use Rattle.au_meaning.specs.Views.{View}
 use Rattle.au_meaning.specs.Worlds.{Value, World}
-use Rattle.au_safe_acts.specs.Good.{Good, IsRunning}
-use Rattle.au_safe_acts.specs.Making.{values_of}
-use Rattle.au_safe_acts.proofs.GoodLemmas.{good_so}
-use Rattle.au_running_judgements.specs.Blocks.{Either, IsFine, Lends, Names, Runs, RunsAll, RunsArms, RunsTests, through}
-use Rattle.au_running_judgements.specs.Blocks.{with_types}
-use Rattle.au_running_judgements.specs.Known.{Callables}
-use Rattle.au_running_judgements.specs.Lives.{Ahead, AheadAll, AheadArms, AheadTests, Opens, Over, Standing}
-use Rattle.au_running_judgements.specs.Lives.{after_whole, lending, put, put_each}
+use Rattle.au_sound_expressions.specs.Good.{Good, IsRunning}
+use Rattle.au_sound_expressions.specs.Making.{values_of}
+use Rattle.au_sound_expressions.proofs.GoodLemmas.{good_so}
+use Rattle.au_sound_expressions.specs.Blocks.{Either, IsFine, Lends, Names, Runs, RunsAll, RunsArms, RunsTests, through}
+use Rattle.au_sound_expressions.specs.Blocks.{with_types}
+use Rattle.au_sound_expressions.specs.Known.{Callables}
+use Rattle.au_sound_expressions.specs.Lives.{Ahead, AheadAll, AheadArms, AheadTests, Opens, Over, Standing}
+use Rattle.au_sound_expressions.specs.Lives.{after_whole, lending, put, put_each}
 use Rattle.au_sound_expressions.specs.Safe.{AllWait, CallsSafe, frame}
 use Rattle.au_sound_blocks.specs.Flows.{tokens}
 use Rattle.au_sound_blocks.specs.Steps.{StepsAreSafe}

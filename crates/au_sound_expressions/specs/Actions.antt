@@ -18,21 +18,21 @@ use Rattle.au_lending.specs.Laws.{IsReadable}
 use Rattle.au_lending.specs.Records.{onto, types_made}
 use Rattle.au_lending.specs.Seeing.{LeadsOn}
 use Rattle.au_borrows.specs.Orders.{Act, is_active}
-use Rattle.au_frames.specs.Frames.{Frame}
+use Rattle.au_running_judgements.specs.Frames.{Frame}
 use Rattle.au_meaning.specs.Acts as meaning
 use Rattle.au_meaning.specs.Acts.{looks, refers, ships_call}
 use Rattle.au_meaning.specs.Ticks.{comes, follows, needing, pure}
 use Rattle.au_meaning.specs.Worlds.{Value, World}
-use Rattle.au_sound_calls.specs.Sound.{AreTyped}
-use Rattle.au_safe_acts.specs.Behind.{ReadersReadWell, WritersReadWell}
-use Rattle.au_safe_acts.specs.Good.{Good, IsIn, IsOrderly, IsRunning}
-use Rattle.au_safe_acts.specs.Lending.{LendsWell, ReadsWell, RelendsWell}
-use Rattle.au_safe_acts.specs.Making.{CopiesWell, MakesFreeWell, MakesLinearWell, values_of}
-use Rattle.au_safe_acts.specs.Naming.{LooksWell, MovesWell}
-use Rattle.au_safe_acts.specs.Closing.{TokensBegin, TokensEnd}
-use Rattle.au_safe_steps.specs.Beginning.{CountsLying}
-use Rattle.au_safe_steps.specs.Binding.{LabelsAreOrdered}
-use Rattle.au_safe_steps.specs.Coming.{ReordersWell}
+use Rattle.au_running_judgements.specs.Sound.{AreTyped}
+use Rattle.au_running_judgements.specs.Behind.{ReadersReadWell, WritersReadWell}
+use Rattle.au_running_judgements.specs.Good.{Good, IsIn, IsOrderly, IsRunning}
+use Rattle.au_running_judgements.specs.Lending.{LendsWell, ReadsWell, RelendsWell}
+use Rattle.au_running_judgements.specs.Making.{CopiesWell, MakesFreeWell, MakesLinearWell, values_of}
+use Rattle.au_running_judgements.specs.Naming.{LooksWell, MovesWell}
+use Rattle.au_running_judgements.specs.Closing.{TokensBegin, TokensEnd}
+use Rattle.au_running_judgements.specs.Beginning.{CountsLying}
+use Rattle.au_running_judgements.specs.Binding.{LabelsAreOrdered}
+use Rattle.au_running_judgements.specs.Coming.{ReordersWell}
 use Rattle.au_running_judgements.specs.Expressions.{IsEquality}
 use Rattle.au_running_judgements.specs.Shipping.{Ships}
 

@@ -17,7 +17,7 @@ use Rattle.au_closed_programs.specs.Answers.{ClosesWithin}
 use Rattle.au_closed_programs.specs.Programs.{ClosedProgram, Closes}
 use Rattle.au_closed_programs.proofs.ClosedLemmas.{one_program}
 use Rattle.au_low.specs.declared.code.Code.{Code}
-use Rattle.au_lowering.specs.Closed.{code_of}
+use Rattle.au_running.specs.Closed.{code_of}
 use Rattle.au_running.specs.Ran.{HasNoEntry, IsLowered}
 use Rattle.au_running.specs.declared.coding.Uncoded.{Uncoded}
 use Rattle.au_running.specs.declared.coding.Uncoded.TheVariants as uncoded

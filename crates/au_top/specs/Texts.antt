@@ -7,7 +7,7 @@ use Rattle.au_closed_programs.specs.Answers.{ClosesWithin}
 use Rattle.au_closed_programs.specs.Programs.{ClosedProgram}
 use Rattle.au_cprint.specs.Programs.{c_text}
 use Rattle.au_low.specs.declared.code.Code.{Code}
-use Rattle.au_lowering.specs.Closed.{is_too_long}
+use Rattle.au_running.specs.Closed.{is_too_long}
 use Rattle.au_modules.specs.declared.modules.Modules.{Modules}
 use Rattle.au_modules.specs.Slots as slots
 use Rattle.au_noting_programs.specs.Faults.{IsDerived}
