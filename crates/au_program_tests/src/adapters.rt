@@ -1,7 +1,7 @@
 //! The adapters, over real files.
 
-use crate::adapters::{DiskShelf, StderrSink, StdinSource, StdoutSink};
 use au_base::{Fetch, Next, Put, Shelf, Sink, Source, put_all};
+use au_system::{DiskShelf, StderrSink, StdinSource, StdoutSink};
 use std::fs;
 use std::io::{self, ErrorKind, Read};
 
