@@ -1,3 +1,4 @@
+pub mod MarkLemmas
 pub mod NumberedLemmas
 pub mod RunLemmas
 pub mod WordLemmas
