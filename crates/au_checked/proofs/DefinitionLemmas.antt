@@ -36,7 +36,7 @@ use Rattle.au_checked.proofs.UniverseLemmas.{universes_agree}
 
 -- ---- what a definition is
 
-named_is : (name : Bytes) (o : Option Bytes) → is_named name o ≡ true → (other : Bytes) × (o ≡ Some other)
+pub named_is : (name : Bytes) (o : Option Bytes) → is_named name o ≡ true → (other : Bytes) × (o ≡ Some other)
 named_is name None e = absurd (true≢false (sym e))
 named_is name (Some other) e = (other, refl)
 
@@ -69,7 +69,7 @@ parameters_declared (constant_body at n t v) one e = absurd (none-some one e)
 parameters_declared (function_body at gs h b stop) one e = absurd (none-some one e)
 parameters_declared (instance_body at gs n t ms) one e = absurd (none-some one e)
 
-found_passes : {A : Type 0} (test : A → Bool) (xs : List A) (x : A) → find test xs ≡ Some x
+pub found_passes : {A : Type 0} (test : A → Bool) (xs : List A) (x : A) → find test xs ≡ Some x
     → (test x ≡ true) × ((i : ℕ) × (slice_get xs i ≡ Some x))
 found_passes test [] x e = absurd (none-some x e)
 found_passes {A} test (y ∷ ys) x e = by (test y) refl e (λ later. found_passes test ys x later)
@@ -104,7 +104,7 @@ module _ (program : List ModuleParts) (good : AllDeclarationsAreGood program) wh
 
   -- ---- definitions
 
-  in_part : (place first : ℕ) (ds : List PlainDeclaration) (k : ℕ) (d : Standing)
+  pub in_part : (place first : ℕ) (ds : List PlainDeclaration) (k : ℕ) (d : Standing)
       → slice_get (standing_from place Body first ds) k ≡ Some d
       → (d.place ≡ place) × (d.part ≡ Body) × (slice_get ds k ≡ Some d.says)
   unfolding standing_from

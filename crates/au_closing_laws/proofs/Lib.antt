@@ -26,7 +26,7 @@ mod PutStandLemmas
 mod MeantStandLemmas
 mod OutsideStandLemmas
 pub mod FieldLemmas
-mod OnceLemmas
-mod OwnTypeLemmas
-mod AcceptedLemmas
+pub mod OnceLemmas
+pub mod OwnTypeLemmas
+pub mod AcceptedLemmas
 mod LeadLemmas
