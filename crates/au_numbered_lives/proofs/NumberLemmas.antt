@@ -32,7 +32,7 @@ use Rattle.au_names_ahead.proofs.BornLemmas.{same_bound}
 use Rattle.au_numbered_lives.specs.Sorts.{IsGoodOver, LivesAreNumbered, sorts_from, sorts_of}
 
 -- each of some variables asks what the number says that it has
-abbrev AreSorted : (ℕ → Sort) → ℕ → List Variable → Type 0
+abbrev pub AreSorted : (ℕ → Sort) → ℕ → List Variable → Type 0
 AreSorted sorts number [] = Unit {0}
 AreSorted sorts number (v ∷ rest) = (sorts number ≡ v.sort) × AreSorted sorts (number + 1) rest
 
@@ -40,11 +40,11 @@ AreSorted sorts number (v ∷ rest) = (sorts number ≡ v.sort) × AreSorted sor
 abbrev Good : (ℕ → Sort) → ℕ → List Variable → Type 0
 Good sorts number vs = GoodLives vs × AreSorted sorts number vs
 
-plus_zero : (n : ℕ) → n ≡ n + 0
+pub plus_zero : (n : ℕ) → n ≡ n + 0
 plus_zero n = omega arith
 
 module _ (sorts : ℕ → Sort) where
-  moved : (n m : ℕ) (vs : List Variable) → n ≡ m → AreSorted sorts n vs → AreSorted sorts m vs
+  pub moved : (n m : ℕ) (vs : List Variable) → n ≡ m → AreSorted sorts n vs → AreSorted sorts m vs
   moved n m vs same a = subst (λ (k : ℕ). AreSorted sorts k vs) same a
 
   two : (number : ℕ) (vs ws : List Variable) → Good sorts number (vs ++ ws)
@@ -62,16 +62,16 @@ module _ (sorts : ℕ → Sort) where
 nothing_before : (n : ℕ) → 0 + n ≡ n
 nothing_before n = omega arith
 
-abbrev plain : {T C : Type 0} → Statements Bytes T C → PlainStatements
+abbrev pub plain : {T C : Type 0} → Statements Bytes T C → PlainStatements
 plain b = plain_statements (λ (b : Bytes). b) b
 
-many_bound : (block : PlainStatements) (binds : List (Bound Bytes)) (sc : TypeScope)
+pub many_bound : (block : PlainStatements) (binds : List (Bound Bytes)) (sc : TypeScope)
     → length (bound_over block (map (plain_bound (λ (b : Bytes). b)) binds) sc) ≡ length binds
 many_bound block [] sc = refl
 many_bound block (b ∷ rest) sc = ap suc (many_bound block rest sc)
 
 mutual
-  many_inside : {T C : Type 0} (s : Statement Bytes T C) (rest : PlainStatements) (sc : TypeScope)
+  pub many_inside : {T C : Type 0} (s : Statement Bytes T C) (rest : PlainStatements) (sc : TypeScope)
       → length (variables_after (plain_statement (λ (b : Bytes). b) s) rest sc)
       + length (variables_inside (plain_statement (λ (b : Bytes). b) s) sc) ≡ names_in s
   many_inside (skip at) rest sc = refl
@@ -104,7 +104,7 @@ mutual
   many_inside (discard at e) rest sc = refl
   many_inside (return_of at e) rest sc = refl
 
-  many : {T C : Type 0} (b : Statements Bytes T C) (sc : TypeScope)
+  pub many : {T C : Type 0} (b : Statements Bytes T C) (sc : TypeScope)
       → length (variables_in (plain b) sc) ≡ names_in_block b
   many no_statements sc = refl
   many (statements s rest) sc =
@@ -118,7 +118,7 @@ mutual
       let split : length (inside ++ others) ≡ length inside + length others = length-append inside others in
       omega (arith, total, split, one, more)
 
-  many_tests : {T C : Type 0} (tests : Branches Bytes T C) (sc : TypeScope)
+  pub many_tests : {T C : Type 0} (tests : Branches Bytes T C) (sc : TypeScope)
       → length (variables_in_branches (plain_branches (λ (b : Bytes). b) tests) sc) ≡ names_in_tests tests
   many_tests no_branches sc = refl
   many_tests (branches e block rest) sc =
@@ -126,7 +126,7 @@ mutual
       (b : Bytes). b) rest) sc)
       ∙ ap₂ (λ (m n : ℕ). m + n) (many block sc) (many_tests rest sc)
 
-  many_arms : {T C : Type 0} (all : Arms Bytes T C) (sc : TypeScope)
+  pub many_arms : {T C : Type 0} (all : Arms Bytes T C) (sc : TypeScope)
       → length (variables_in_arms (plain_arms (λ (b : Bytes). b) all) sc) ≡ names_in_arms all
   many_arms no_arms sc = refl
   many_arms (arms at name binds block rest) sc =
@@ -328,7 +328,7 @@ sorted_later first number v vs (w ∷ ws) less a = (
   sorted_later first (number + 1) v vs ws (omega (arith, less)) a.1,
 )
 
-sorted : (first : ℕ) (vs : List Variable) → AreSorted (sorts_from first vs) first vs
+pub sorted : (first : ℕ) (vs : List Variable) → AreSorted (sorts_from first vs) first vs
 sorted first [] = tt
 sorted first (v ∷ vs) = (
   ap (λ (b : Bool). if b then v.sort else sorts_from (first + 1) vs first) (eq-eqb first first refl),
