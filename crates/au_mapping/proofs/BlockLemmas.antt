@@ -18,6 +18,7 @@ use Rattle.au_syntax.specs.declared.statements.Stmt.{Stmt}
 use Rattle.au_syntax.specs.declared.statements.Stmt as code
 use Rattle.au_syntax.specs.declared.declarations.Generic.{Generic}
 use Rattle.au_syntax.specs.declared.declarations.Signature.{Signature}
+use Rattle.au_syntax.specs.declared.declarations.Decl.{Decl}
 use Rattle.au_syntax.specs.declared.declarations.Decl.TheVariants as decl
 use Rattle.au_syntax.specs.Statements.{destructure, conditional_else, while_loop, for_loop, borrow_in}
 use Rattle.au_syntax.specs.Statements.{borrow_typed, no_branches, branches, no_arms, arms}
@@ -68,16 +69,16 @@ module _ {W X N T C Y M U D : Type 0} (w : Ghosts W X Y N T C M U D) where
       statement n (code.Skip at) ≡ statement o old
   skip_walked old at is = skip_says n at ∙ sym (ap (statement o) is ∙ skip_says o at)
 
-  pub destructure_walked : (at : Pos) (bs : Vec (Bind X N T C) Global)
+  pub destructure_walked : (old : Stmt X N T C) (at : Pos) (bs : Vec (Bind X N T C) Global)
       (bs' : Vec (Bind Y M U D) Global) (e : Box (Expr X N T C) Global) (e' : Box (Expr Y M U D) Global) →
-      map (bound n) bs'.items ≡ map (bound o) bs.items →
+      old ≡ code.Destructure at bs e → map (bound n) bs'.items ≡ map (bound o) bs.items →
       expression n e'.value ≡ expression o e.value → statement n (code.Destructure at bs' e')
-      ≡ statement o (code.Destructure at bs e)
-  destructure_walked at bs bs' e e' first second =
+      ≡ statement o old
+  destructure_walked old at bs bs' e e' is first second =
       destructure_says n at bs' e'
       ∙ ap (λ x. destructure at x (expression n e'.value)) first
       ∙ ap (destructure at (map (bound o) bs.items)) second
-      ∙ sym (destructure_says o at bs e)
+      ∙ sym (ap (statement o) is ∙ destructure_says o at bs e)
 
   pub while_walked : (at : Pos) (e : Box (Expr X N T C) Global) (e' : Box (Expr Y M U D) Global)
       (b : Block X N T C) (b' : Block Y M U D) →
@@ -136,15 +137,15 @@ module _ {W X N T C Y M U D : Type 0} (w : Ghosts W X Y N T C M U D) where
       ∙ ap (λ y. borrow_typed at (placed o r) (written t) mode (placed o x) y stop) same
       ∙ sym (borrow_typed_says o at r t mode x b stop)
 
-  pub function_body_walked : (at : Pos) (gs : Vec (Generic X N T C) Global)
+  pub function_body_walked : (old : Decl X N T C) (at : Pos) (gs : Vec (Generic X N T C) Global)
       (gs' : Vec (Generic Y M U D) Global) (s : Signature X N T C) (s' : Signature Y M U D)
       (b : Block X N T C) (b' : Block Y M U D) (stop : Pos) →
-      map (constrained n) gs'.items ≡ map (constrained o) gs.items →
+      old ≡ decl.FunctionBody at gs s b stop → map (constrained n) gs'.items ≡ map (constrained o) gs.items →
       header n s' ≡ header o s → block n b' ≡ block o b →
-      declaration n (decl.FunctionBody at gs' s' b' stop) ≡ declaration o (decl.FunctionBody at gs s b stop)
-  function_body_walked at gs gs' s s' b b' stop generics signature same =
+      declaration n (decl.FunctionBody at gs' s' b' stop) ≡ declaration o old
+  function_body_walked old at gs gs' s s' b b' stop is generics signature same =
       function_body_says n at gs' s' b' stop
       ∙ ap (λ ps. function_body at ps (header n s') (block n b') stop) generics
       ∙ ap (λ h. function_body at (map (constrained o) gs.items) h (block n b') stop) signature
       ∙ ap (λ ss. function_body at (map (constrained o) gs.items) (header o s) ss stop) same
-      ∙ sym (function_body_says o at gs s b stop)
+      ∙ sym (ap (declaration o) is ∙ function_body_says o at gs s b stop)

@@ -5,8 +5,7 @@ ghost use Rattle.au_syntax.specs.Modules.{InUniverse, Constrained, Header, Varia
 ghost use Rattle.au_syntax.specs.Views.{in_universe, constrained, header, variant, method_body, declaration};
 ghost use Rattle.au_mapping.specs.Seen.{before, after};
 
-use crate::declaration_forms as forms;
-use crate::parts::{Part, walked_three, walked_two};
+use crate::parts::{Part, walked_four, walked_three, walked_two};
 use crate::walks::Walk;
 use au_base::Memory;
 use au_syntax::{Decl, Generic, Method, Phase, Signature, TypeParameter, UnionCase};
@@ -114,33 +113,53 @@ impl<P: Phase, Q: Phase, W: Walk<P, Q>> Part<Q, W> for Decl<P> {
 
     fn walked(&self, alloc: Global, walk: &mut W) -> Result<Decl<Q>, Memory> {
         match self {
-            Decl::Constant(at, name, of) => { forms::walked_constant(alloc, *at, name, of, walk) }
+            Decl::Constant(at, name, of) => {
+                let (name, of) = walked_two(alloc, name, of, walk)?;
+                Ok(Decl::Constant(*at, name, of))
+            }
             Decl::Opaque(at, name, parameters, universe) => {
-                forms::walked_opaque(alloc, *at, name, parameters, *universe, walk)
+                let (name, parameters) = walked_two(alloc, name, parameters, walk)?;
+                Ok(Decl::Opaque(*at, name, parameters, *universe))
             }
             Decl::Record(at, name, parameters, universe, fields) => {
-                forms::walked_record(alloc, *at, name, parameters, *universe, fields, walk)
+                let (name, parameters, fields) = walked_three(
+                    alloc, name, parameters, fields, walk,
+                )?;
+                Ok(Decl::Record(*at, name, parameters, *universe, fields))
             }
             Decl::Union(at, name, parameters, universe, cases) => {
-                forms::walked_union(alloc, *at, name, parameters, *universe, cases, walk)
+                let (name, parameters, cases) = walked_three(alloc, name, parameters, cases, walk)?;
+                Ok(Decl::Union(*at, name, parameters, *universe, cases))
             }
             Decl::Function(at, generics, signature) => {
-                forms::walked_function(alloc, *at, generics, signature, walk)
+                let (generics, signature) = walked_two(alloc, generics, signature, walk)?;
+                Ok(Decl::Function(*at, generics, signature))
             }
             Decl::Class(at, name, parameter, methods) => {
-                forms::walked_class(alloc, *at, name, parameter, methods, walk)
+                let (name, parameter, methods) = walked_three(
+                    alloc, name, parameter, methods, walk,
+                )?;
+                Ok(Decl::Class(*at, name, parameter, methods))
             }
             Decl::Instance(at, generics, name, of) => {
-                forms::walked_instance(alloc, *at, generics, name, of, walk)
+                let (generics, name, of) = walked_three(alloc, generics, name, of, walk)?;
+                Ok(Decl::Instance(*at, generics, name, of))
             }
             Decl::ConstantBody(at, name, of, value) => {
-                forms::walked_constant_body(alloc, *at, name, of, value, walk)
+                let (name, of, value) = walked_three(alloc, name, of, value, walk)?;
+                Ok(Decl::ConstantBody(*at, name, of, value))
             }
             Decl::FunctionBody(at, generics, signature, body, end) => {
-                forms::walked_function_body(alloc, *at, generics, signature, body, *end, walk)
+                let (generics, signature, body) = walked_three(
+                    alloc, generics, signature, body, walk,
+                )?;
+                Ok(Decl::FunctionBody(*at, generics, signature, body, *end))
             }
             Decl::InstanceBody(at, generics, name, of, methods) => {
-                forms::walked_instance_body(alloc, *at, generics, name, of, methods, walk)
+                let (generics, name, of, methods) = walked_four(
+                    alloc, generics, name, of, methods, walk,
+                )?;
+                Ok(Decl::InstanceBody(*at, generics, name, of, methods))
             }
         }
     }

@@ -5,11 +5,7 @@ ghost use Rattle.au_syntax.specs.Expressions.{Node, Expression, call, named_call
 ghost use Rattle.au_syntax.specs.Views.{written, placed, node, expression, expression_all, argument_all};
 ghost use Rattle.au_mapping.specs.Seen.{before, after};
 
-use crate::leaves::{
-    walked_arrow, walked_lent, walked_lent_part, walked_negative, walked_nil, walked_number,
-    walked_path, walked_text, walked_truth,
-};
-use crate::parts::{Part, walked_two};
+use crate::parts::{Part, walked_three, walked_two};
 use crate::walks::Walk;
 use au_base::{Memory, Text};
 use au_syntax::{Argument, Expr, Ident, Phase, Site, TypeText};
@@ -90,13 +86,22 @@ pub fn walked_expression<P: Phase, Q: Phase, W: Walk<P, Q>>(
         expression (after W.Walk) new ≡ expression (before W.Walk) of.now) }
 {
     match of {
-        Expr::Number(site, literal) => walked_number(alloc, site, *literal, walk),
-        Expr::Negative(site, literal) => walked_negative(alloc, site, *literal, walk),
-        Expr::Text(site, text) => walked_text(alloc, site, text, walk),
-        Expr::Bool(site, truth) => walked_truth(alloc, site, *truth, walk),
-        Expr::Nil(site) => walked_nil(alloc, site, walk),
-        Expr::Path(site, name, fields) => walked_path(alloc, site, name, fields, walk),
-        Expr::Arrow(site, name, fields) => walked_arrow(alloc, site, name, fields, walk),
+        Expr::Number(site, literal) => Ok(Expr::Number(site.walked(alloc, walk)?, *literal)),
+        Expr::Negative(site, literal) => Ok(Expr::Negative(site.walked(alloc, walk)?, *literal)),
+        Expr::Text(site, text) => {
+            let (site, text) = walked_two(alloc, site, text, walk)?;
+            Ok(Expr::Text(site, text))
+        }
+        Expr::Bool(site, truth) => Ok(Expr::Bool(site.walked(alloc, walk)?, *truth)),
+        Expr::Nil(site) => Ok(Expr::Nil(site.walked(alloc, walk)?)),
+        Expr::Path(site, name, fields) => {
+            let (site, name, fields) = walked_three(alloc, site, name, fields, walk)?;
+            Ok(Expr::Path(site, name, fields))
+        }
+        Expr::Arrow(site, name, fields) => {
+            let (site, name, fields) = walked_three(alloc, site, name, fields, walk)?;
+            Ok(Expr::Arrow(site, name, fields))
+        }
         Expr::Call(site, name, arguments, note) => {
             walked_call(alloc, arguments, site, name, note, walk)
         }
@@ -111,8 +116,14 @@ pub fn walked_expression<P: Phase, Q: Phase, W: Walk<P, Q>>(
             let (site, inner) = walked_operand(alloc, inner, site, walk)?;
             Ok(Expr::Dereference(site, inner))
         }
-        Expr::Borrow(site, mode, name) => walked_lent(alloc, site, *mode, name, walk),
-        Expr::BorrowPart(site, name, fields) => walked_lent_part(alloc, site, name, fields, walk),
+        Expr::Borrow(site, mode, name) => {
+            let (site, name) = walked_two(alloc, site, name, walk)?;
+            Ok(Expr::Borrow(site, *mode, name))
+        }
+        Expr::BorrowPart(site, name, fields) => {
+            let (site, name, fields) = walked_three(alloc, site, name, fields, walk)?;
+            Ok(Expr::BorrowPart(site, name, fields))
+        }
         Expr::Binary(site, operator, left, right) => {
             let (site, left) = walked_operand(alloc, left, site, walk)?;
             Ok(Expr::Binary(site, *operator, left, walked_boxed(alloc, right, walk)?))

@@ -1,11 +1,9 @@
 //! Trees of one phase as trees of another, copies of trees, and how deep they are nested.
 #![tactic(auto)]
 
-mod declaration_forms;
 pub mod declarations;
 mod depths;
 pub mod expressions;
-mod leaves;
 pub mod mapped_declarations;
 pub mod mapped_expressions;
 pub mod mapped_modules;
@@ -14,7 +12,6 @@ pub mod mapped_wholes;
 pub mod modules;
 mod names;
 mod parts;
-mod simple_statements;
 pub mod statements;
 pub mod turns;
 mod types;

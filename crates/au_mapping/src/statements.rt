@@ -6,10 +6,6 @@ ghost use Rattle.au_syntax.specs.Views.{placed, bound, expression, statement, bl
 ghost use Rattle.au_mapping.specs.Seen.{before, after};
 
 use crate::parts::{Part, walked_three, walked_two};
-use crate::simple_statements::{
-    walked_assign, walked_assign_through, walked_destructure, walked_discard, walked_let,
-    walked_return,
-};
 use crate::walks::Walk;
 use au_base::{Memory, Pos};
 use au_syntax::{
@@ -83,21 +79,30 @@ pub fn walked_statement<P: Phase, Q: Phase, W: Walk<P, Q>>(
     match of {
         Stmt::Skip(at) => Ok(Stmt::Skip(*at)),
         Stmt::Let(at, binding, name, text, value) => {
-            walked_let(alloc, *at, *binding, name, text, value, walk)
+            let (name, text, value) = walked_three(alloc, name, text, value, walk)?;
+            Ok(Stmt::Let(*at, *binding, name, text, value))
         }
-        Stmt::Destructure(at, binds, value) => walked_destructure(alloc, *at, binds, value, walk),
+        Stmt::Destructure(at, binds, value) => {
+            let (binds, value) = walked_two(alloc, binds, value, walk)?;
+            Ok(Stmt::Destructure(*at, binds, value))
+        }
         Stmt::Assign(at, name, fields, value) => {
-            walked_assign(alloc, *at, name, fields, value, walk)
+            let (name, fields, value) = walked_three(alloc, name, fields, value, walk)?;
+            Ok(Stmt::Assign(*at, name, fields, value))
         }
         Stmt::AssignThrough(at, name, fields, value) => {
-            walked_assign_through(alloc, *at, name, fields, value, walk)
+            let (name, fields, value) = walked_three(alloc, name, fields, value, walk)?;
+            Ok(Stmt::AssignThrough(*at, name, fields, value))
         }
         Stmt::If(at, branches) => Ok(Stmt::If(*at, walked_branches(alloc, branches, walk)?)),
         Stmt::IfElse(at, branches, last) => {
             let branches = walked_branches(alloc, branches, walk)?;
             Ok(Stmt::IfElse(*at, branches, walked_block(alloc, last, walk)?))
         }
-        Stmt::Case(at, value, arms) => walked_case(alloc, arms, *at, value, walk),
+        Stmt::Case(at, value, arms) => {
+            let value = value.walked(alloc, walk)?;
+            Ok(Stmt::Case(*at, value, walked_arms(alloc, arms, walk)?))
+        }
         Stmt::While(at, test, body) => walked_while(alloc, body, *at, test, walk),
         Stmt::For(at, name, from, to, body) => walked_for(alloc, body, *at, name, from, to, walk),
         Stmt::Borrow(at, access, names, body, end) => {
@@ -113,27 +118,9 @@ pub fn walked_statement<P: Phase, Q: Phase, W: Walk<P, Q>>(
             };
             walked_borrow_typed(alloc, body, *at, &borrow, *end, walk)
         }
-        Stmt::Call(at, call) => walked_discard(alloc, *at, call, walk),
-        Stmt::Return(at, value) => walked_return(alloc, *at, value, walk),
+        Stmt::Call(at, call) => Ok(Stmt::Call(*at, call.walked(alloc, walk)?)),
+        Stmt::Return(at, value) => Ok(Stmt::Return(*at, value.walked(alloc, walk)?)),
     }
-}
-
-/// A `case` in the new phase.
-#[cycle(walked_statement)]
-fn walked_case<P: Phase, Q: Phase, W: Walk<P, Q>>(
-    alloc: Global,
-    arms: &Vec<Arm<P>>,
-    at: Pos,
-    value: &Box<Expr<P>>,
-    walk: &mut W,
-) -> Result<Stmt<Q>, Memory>
-    ensures { IfOk result (λ new.
-        statement (after W.Walk) new
-        ≡ statement (before W.Walk) (Stmt.Case at value.now arms.now)) }
-{
-    let value = value.walked(alloc, walk)?;
-    let arms = walked_arms(alloc, arms, walk)?;
-    Ok(Stmt::Case(at, value, arms))
 }
 
 /// A loop with a test in the new phase.

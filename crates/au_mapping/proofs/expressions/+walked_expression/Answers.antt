@@ -4,33 +4,36 @@ use Rattle.au_syntax.specs.declared.expressions.Argument.{size-Argument}
 use Rattle.au_syntax.specs.declared.expressions.Expr.{size-Expr}
 use Rattle.au_syntax.specs.Views.{expression, expression_all, argument_all}
 use Rattle.au_syntax.proofs.ExpressionLemmas.{snoc_expressions, snoc_arguments, expressions_push}
-use Rattle.au_syntax.proofs.ExpressionLemmas.{arguments_push, call_says, named_call_says}
-use Rattle.au_syntax.proofs.ExpressionLemmas.{parenthesized_says, dereference_says, binary_says, not_says}
+use Rattle.au_syntax.proofs.ExpressionLemmas.{arguments_push, number_says, negative_says, text_says}
+use Rattle.au_syntax.proofs.ExpressionLemmas.{bool_says, nil_says, path_says, arrow_says, call_says}
+use Rattle.au_syntax.proofs.ExpressionLemmas.{named_call_says, parenthesized_says, dereference_says}
+use Rattle.au_syntax.proofs.ExpressionLemmas.{borrow_says, borrow_part_says, binary_says, not_says}
 use Rattle.au_syntax.proofs.ExpressionLemmas.{typed_says, if_says}
 use Rattle.au_mapping.specs.Seen.{before, after}
 use Rattle.au_mapping.proofs.WalkLemmas.{one_argument, all_walked, walked_more, argument_walked}
 use Rattle.au_mapping.proofs.expressions.+walked_expression.Goals as goal
 
-pub walked_expression-returns-in-Number : goal.walked_expression-returns-in-Number
-walked_expression-returns-in-Number g t c = rw c.in-Number.is c.walked_number.ensures
+pub walked_expression-returns-in_ok-walked-in-Number : goal.walked_expression-returns-in_ok-walked-in-Number
+walked_expression-returns-in_ok-walked-in-Number g t c = grind (arith, number_says)
 
-pub walked_expression-returns-in-Negative : goal.walked_expression-returns-in-Negative
-walked_expression-returns-in-Negative g t c = rw c.in-Negative.is c.walked_negative.ensures
+pub walked_expression-returns-in_ok-walked-in-Negative :
+    goal.walked_expression-returns-in_ok-walked-in-Negative
+walked_expression-returns-in_ok-walked-in-Negative g t c = grind (arith, negative_says)
 
-pub walked_expression-returns-in-Text : goal.walked_expression-returns-in-Text
-walked_expression-returns-in-Text g t c = rw c.in-Text.is c.walked_text.ensures
+pub walked_expression-returns-in_ok-site-in-Text : goal.walked_expression-returns-in_ok-site-in-Text
+walked_expression-returns-in_ok-site-in-Text g t c = grind (arith, text_says)
 
-pub walked_expression-returns-in-Bool : goal.walked_expression-returns-in-Bool
-walked_expression-returns-in-Bool g t c = rw c.in-Bool.is c.walked_truth.ensures
+pub walked_expression-returns-in_ok-walked-in-Bool : goal.walked_expression-returns-in_ok-walked-in-Bool
+walked_expression-returns-in_ok-walked-in-Bool g t c = grind (arith, bool_says)
 
-pub walked_expression-returns-in-Nil : goal.walked_expression-returns-in-Nil
-walked_expression-returns-in-Nil g t c = rw c.in-Nil.is c.walked_nil.ensures
+pub walked_expression-returns-in_ok-walked-in-Nil : goal.walked_expression-returns-in_ok-walked-in-Nil
+walked_expression-returns-in_ok-walked-in-Nil g t c = grind (arith, nil_says)
 
-pub walked_expression-returns-in-Path : goal.walked_expression-returns-in-Path
-walked_expression-returns-in-Path g t c = rw c.in-Path.is c.walked_path.ensures
+pub walked_expression-returns-in_ok-site-in-Path : goal.walked_expression-returns-in_ok-site-in-Path
+walked_expression-returns-in_ok-site-in-Path g t c = grind (arith, path_says)
 
-pub walked_expression-returns-in-Arrow : goal.walked_expression-returns-in-Arrow
-walked_expression-returns-in-Arrow g t c = rw c.in-Arrow.is c.walked_arrow.ensures
+pub walked_expression-returns-in_ok-site-in-Arrow : goal.walked_expression-returns-in_ok-site-in-Arrow
+walked_expression-returns-in_ok-site-in-Arrow g t c = grind (arith, arrow_says)
 
 pub walked_expression-returns-in-Call : goal.walked_expression-returns-in-Call
 walked_expression-returns-in-Call g t c = grind (arith, call_says)
@@ -46,11 +49,12 @@ pub walked_expression-returns-in_ok-site-in-Dereference :
     goal.walked_expression-returns-in_ok-site-in-Dereference
 walked_expression-returns-in_ok-site-in-Dereference g t c = grind (arith, dereference_says)
 
-pub walked_expression-returns-in-Borrow : goal.walked_expression-returns-in-Borrow
-walked_expression-returns-in-Borrow g t c = rw c.in-Borrow.is c.walked_lent.ensures
+pub walked_expression-returns-in_ok-site-in-Borrow : goal.walked_expression-returns-in_ok-site-in-Borrow
+walked_expression-returns-in_ok-site-in-Borrow g t c = grind (arith, borrow_says)
 
-pub walked_expression-returns-in-BorrowPart : goal.walked_expression-returns-in-BorrowPart
-walked_expression-returns-in-BorrowPart g t c = rw c.in-BorrowPart.is c.walked_lent_part.ensures
+pub walked_expression-returns-in_ok-site-in-BorrowPart :
+    goal.walked_expression-returns-in_ok-site-in-BorrowPart
+walked_expression-returns-in_ok-site-in-BorrowPart g t c = grind (arith, borrow_part_says)
 
 pub walked_expression-returns-in_ok-walked_boxed-in-Binary :
     goal.walked_expression-returns-in_ok-walked_boxed-in-Binary

@@ -6,30 +6,38 @@ use Rattle.au_syntax.specs.declared.statements.Stmt.{size-Stmt}
 use Rattle.au_syntax.specs.declared.statements.Block.{size-Block, size_is-Block}
 use Rattle.au_syntax.specs.Views.{statement, statement_all, branch_all, arm_all}
 use Rattle.au_syntax.proofs.StatementLemmas.{snoc_statements, snoc_branches, snoc_arms, statements_push}
-use Rattle.au_syntax.proofs.StatementLemmas.{branches_push, arms_push, one_branch, one_arm, if_says}
-use Rattle.au_syntax.proofs.StatementLemmas.{case_says}
+use Rattle.au_syntax.proofs.StatementLemmas.{branches_push, arms_push, one_branch, one_arm, let_says}
+use Rattle.au_syntax.proofs.StatementLemmas.{assign_says, assign_through_says, if_says}
+use Rattle.au_syntax.proofs.StatementLemmas.{case_says, call_says, return_says}
 use Rattle.au_mapping.specs.Seen.{before, after}
 use Rattle.au_mapping.proofs.WalkLemmas.{all_walked, walked_more}
-use Rattle.au_mapping.proofs.BlockLemmas.{skip_walked}
+use Rattle.au_mapping.proofs.BlockLemmas.{skip_walked, destructure_walked}
 use Rattle.au_mapping.proofs.BlockLemmas.{branch_walked, arm_walked, if_else_walked, while_walked}
 use Rattle.au_mapping.proofs.BlockLemmas.{for_walked, borrow_walked, borrow_typed_walked}
 use Rattle.au_mapping.proofs.statements.+walked_statement.Goals as goal
 
-pub walked_statement-returns-in-Let : goal.walked_statement-returns-in-Let
-walked_statement-returns-in-Let g t c = rw c.in-Let.is c.walked_let.ensures
+pub walked_statement-returns-in_ok-name-in-Let : goal.walked_statement-returns-in_ok-name-in-Let
+walked_statement-returns-in_ok-name-in-Let g t c = grind (arith, let_says)
 
 pub walked_statement-returns-in-Skip : goal.walked_statement-returns-in-Skip
 walked_statement-returns-in-Skip g t c =
     skip_walked g.W.Walk c.args.of.now c.in-Skip.at c.in-Skip.is
 
-pub walked_statement-returns-in-Destructure : goal.walked_statement-returns-in-Destructure
-walked_statement-returns-in-Destructure g t c = rw c.in-Destructure.is c.walked_destructure.ensures
+pub walked_statement-returns-in_ok-binds-in-Destructure :
+    goal.walked_statement-returns-in_ok-binds-in-Destructure
+walked_statement-returns-in_ok-binds-in-Destructure g t c =
+    destructure_walked g.W.Walk c.args.of.now c.in-Destructure.at
+    c.in-Destructure.binds c.in_ok-binds-in-Destructure.binds
+    c.in-Destructure.value c.in_ok-binds-in-Destructure.value
+    c.in-Destructure.is c.in_ok-binds-in-Destructure.ensures.first
+    c.in_ok-binds-in-Destructure.ensures.second
 
-pub walked_statement-returns-in-Assign : goal.walked_statement-returns-in-Assign
-walked_statement-returns-in-Assign g t c = rw c.in-Assign.is c.walked_assign.ensures
+pub walked_statement-returns-in_ok-name-in-Assign : goal.walked_statement-returns-in_ok-name-in-Assign
+walked_statement-returns-in_ok-name-in-Assign g t c = grind (arith, assign_says)
 
-pub walked_statement-returns-in-AssignThrough : goal.walked_statement-returns-in-AssignThrough
-walked_statement-returns-in-AssignThrough g t c = rw c.in-AssignThrough.is c.walked_assign_through.ensures
+pub walked_statement-returns-in_ok-name-in-AssignThrough :
+    goal.walked_statement-returns-in_ok-name-in-AssignThrough
+walked_statement-returns-in_ok-name-in-AssignThrough g t c = grind (arith, assign_through_says)
 
 pub walked_statement-returns-in_ok-walked_branches-in-If :
     goal.walked_statement-returns-in_ok-walked_branches-in-If
@@ -43,8 +51,9 @@ walked_statement-returns-in_ok-walked_block-in-IfElse g t c =
     c.in-IfElse.last c.in_ok-walked_block-in-IfElse.field-0
     c.in-IfElse.is c.in_ok-branches-in-IfElse.ensures c.in_ok-walked_block-in-IfElse.ensures
 
-pub walked_statement-returns-in-Case : goal.walked_statement-returns-in-Case
-walked_statement-returns-in-Case g t c = rw c.in-Case.is c.walked_case.ensures
+pub walked_statement-returns-in_ok-walked_arms-in-Case :
+    goal.walked_statement-returns-in_ok-walked_arms-in-Case
+walked_statement-returns-in_ok-walked_arms-in-Case g t c = grind (arith, case_says)
 
 pub walked_statement-returns-in-While : goal.walked_statement-returns-in-While
 walked_statement-returns-in-While g t c = rw c.in-While.is c.walked_while.ensures
@@ -58,14 +67,11 @@ walked_statement-returns-in-Borrow g t c = rw c.in-Borrow.is c.walked_borrow.ens
 pub walked_statement-returns-in-BorrowTyped : goal.walked_statement-returns-in-BorrowTyped
 walked_statement-returns-in-BorrowTyped g t c = rw c.in-BorrowTyped.is c.walked_borrow_typed.ensures
 
-pub walked_statement-returns-in-Call : goal.walked_statement-returns-in-Call
-walked_statement-returns-in-Call g t c = rw c.in-Call.is c.walked_discard.ensures
+pub walked_statement-returns-in_ok-walked-in-Call : goal.walked_statement-returns-in_ok-walked-in-Call
+walked_statement-returns-in_ok-walked-in-Call g t c = grind (arith, call_says)
 
-pub walked_statement-returns-in-Return : goal.walked_statement-returns-in-Return
-walked_statement-returns-in-Return g t c = rw c.in-Return.is c.walked_return.ensures
-
-pub walked_case-returns : goal.walked_case-returns
-walked_case-returns g t c = grind (arith, case_says)
+pub walked_statement-returns-in_ok-walked-in-Return : goal.walked_statement-returns-in_ok-walked-in-Return
+walked_statement-returns-in_ok-walked-in-Return g t c = grind (arith, return_says)
 
 pub walked_while-returns : goal.walked_while-returns
 walked_while-returns g t c =
