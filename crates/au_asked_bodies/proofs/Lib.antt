@@ -1,0 +1,3 @@
+pub mod KeptLemmas
+pub mod RegionLemmas
+pub mod AskedLemmas
