@@ -248,7 +248,7 @@ module _ (program : List ModuleParts) (fit : DefinitionsFit program) (params : L
       on (x, others, first, its, whole) (suc n) is later =
           later others its n (ap (λ l. slice_get l (suc n)) whole ∙ is)
 
-  union_case : (d : Standing) (args : Arguments) (says : PlainDeclaration) → d.says ≡ says → (all : List Case)
+  pub union_case : (d : Standing) (args : Arguments) (says : PlainDeclaration) → d.says ≡ says → (all : List Case)
       → union_cases program d args says ≡ Some all → (tag : ℕ) (one : Case) → slice_get all tag ≡ Some one
       → (written : List (Labelled Bytes)) × (slice_get (cases_written d.says) tag ≡ Some written)
       × (fields_under program d (type_parameters d.says) args written ≡ Some one.fields)
