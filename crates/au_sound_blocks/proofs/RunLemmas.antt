@@ -212,8 +212,7 @@ module _ (types : Types) (owner : ClosedType → Option (List ℕ)) (laws : Step
         scope e runs.0 own A R h names under w ticks runs.1 runs.2 runs.3 ahead room going
     run_safe (destructure at binds e) number scope own A R h names under w ticks ahead runs room going =
         destructure_safe types owner laws loose result below base fs sizes size running see known invoke calls_safe waiting
-        number scope e binds own A R h names under w ticks runs.0 runs.1 runs.2 runs.3 runs.4 runs.5 runs.6 runs.7.0 runs.7.1
-        ahead room going
+        number scope e binds own A R h names under w ticks runs.0 runs.1 runs.3 runs.2 runs.4.0 runs.4.1 ahead room going
     run_safe (assign at x fields e) number scope own A R h names under w ticks ahead runs room going =
         weaker own number number number (number + 0) names A R under
         (run see invoke depth number scope (assign at x fields e)) w ticks (omega arith) (omega arith)
