@@ -32,7 +32,7 @@ use Rattle.au_running_types.specs.Running.{argument_running, called, running}
 use Rattle.au_running_types.proofs.NameLemmas.{callees_run, type_called}
 use Rattle.au_running_types.proofs.UniverseLemmas.{formation_stays, universe_stays}
 use Rattle.au_written_types.specs.Written.{IsTypeName, IsWritten}
-use Rattle.au_known_types.specs.Known.{IsKnown}
+use Rattle.au_standing_types.specs.Known.{IsKnown}
 use Rattle.au_standing_types.specs.Standing.{StandsFor}
 use Rattle.au_standing_types.proofs.StandLemmas.{known_closes}
 use Rattle.au_callee_types.specs.Callees.{IsNotedFor}

@@ -12,7 +12,7 @@ use Rattle.au_type_texts.specs.Given.{Given, given_by}
 use Rattle.au_closed_trees.specs.TypeNames.{type_names}
 use Rattle.au_running_types.specs.Running.{called, running}
 use Rattle.au_written_types.specs.Written.{IsWritten}
-use Rattle.au_known_types.specs.Known.{ValuesAreKnown}
+use Rattle.au_standing_types.specs.Known.{ValuesAreKnown}
 use Rattle.au_standing_types.specs.Standing.{StandsFor}
 
 -- What a call notes for the type parameters of what is called fits them, is known where the call stands, and fixes all

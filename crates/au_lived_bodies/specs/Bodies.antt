@@ -17,11 +17,11 @@ use Rattle.au_syntax.specs.Types.{Labelled}
 use Rattle.au_typing.specs.Bodies.{GoodBody, generics_in, outer_scope}
 use Rattle.au_typing.specs.Notes.{Note}
 use Rattle.au_typing.specs.Scopes.{Outside}
-use Rattle.au_running_judgements.specs.Lives.{AheadAll, put_each}
+use Rattle.au_kept_parts.specs.Lives.{AheadAll, put_each}
 use Rattle.au_kept_parts.specs.Kept.{Keeps}
-use Rattle.au_names_ahead.specs.Lived.{IsLived, loose_by}
-use Rattle.au_names_ahead.specs.Parts.{EachIn}
-use Rattle.au_numbered_lives.specs.Sorts.{sorts_of}
+use Rattle.au_new_names.specs.Lived.{IsLived, loose_by}
+use Rattle.au_new_names.specs.Parts.{EachIn}
+use Rattle.au_typed_lives.specs.Sorts.{sorts_of}
 use Rattle.au_typed_lives.specs.Said.{TellsFree, types_of}
 
 -- A function has a body that is good by the rules of typing, over what is outside of it, its type parameters

@@ -9,8 +9,8 @@ use Rattle.std.proofs.lemmas.List.Elements.{Contains-append_right}
 use Rattle.au_base.proofs.ListLemmas.{Contains-first, Contains-rest}
 use Rattle.au_types.specs.declared.parameters.Parameter.{Parameter}
 use Rattle.au_closed_meanings.specs.Generic.{field_seen, function_under}
-use Rattle.au_closed_trees.specs.Parts.{ClosedField, field_under}
-use Rattle.au_closing.specs.Bodies.{BodyOf, body_in, is_method, method_body}
+use Rattle.au_closed_meanings.specs.Parts.{ClosedField, field_under}
+use Rattle.au_closed_meanings.specs.Bodies.{BodyOf, body_in, is_method, method_body}
 use Rattle.au_closing_laws.proofs.BodyLemmas.{good_standing}
 use Rattle.au_closing_laws.proofs.GenericsLemmas.{body_stands, erased_there, of_declared, spot_there}
 use Rattle.au_closing_laws.proofs.GenericsLemmas.{text_there}
@@ -27,7 +27,7 @@ use Rattle.au_modules.specs.Programs.{ModuleParts}
 use Rattle.au_names.specs.HeadsOf.{heads_of}
 use Rattle.au_names.specs.Owned.{declarations_in}
 use Rattle.au_names.specs.Standing.{standing_at}
-use Rattle.au_new_names.proofs.MarkLemmas.{inner_new, left_new, right_new}
+use Rattle.au_lived_bodies.proofs.MarkLemmas.{inner_new, left_new, right_new}
 use Rattle.au_program_lives.specs.Good.{AllLivesAreGood, DeclarationIsGood}
 use Rattle.au_program_lives.specs.LinearFaults.{types_in}
 use Rattle.au_promises.specs.Mentions.{type_parameters}
@@ -47,7 +47,7 @@ use Rattle.au_syntax.specs.Modules.{constant, opaque_type, record_type, union_ty
 use Rattle.au_syntax.specs.Modules.{constant_body, function_body, instance_body}
 use Rattle.au_syntax.specs.Plain.{Bytes, PlainDeclaration, PlainStatements}
 use Rattle.au_syntax.specs.Types.{Labelled}
-use Rattle.au_typed_lives.specs.Said.{types_of}
+use Rattle.au_lived_bodies.specs.Said.{types_of}
 use Rattle.au_typing.proofs.ErasureLemmas.{block_plain}
 use Rattle.au_typing.specs.Bodies.{generics_in, outer_scope}
 use Rattle.au_typing.specs.Outsides.{outside_of}

@@ -1,8 +1,8 @@
 -- In a program that is good by the rules each body is that of a good function.
 use Rattle.std.specs.Prelude.{◌≡◌, ℕ, ◌+◌, List, [], length, Some}
 use Rattle.au_closed_meanings.specs.Generic.{function_under}
-use Rattle.au_closing.specs.Bodies.{BodyOf, body_of}
-use Rattle.au_kept_parts.specs.Kept.{Keeps}
+use Rattle.au_closed_meanings.specs.Bodies.{BodyOf, body_of}
+use Rattle.au_lived_bodies.specs.Kept.{Keeps}
 use Rattle.au_lived_bodies.specs.Bodies.{IsGoodFunction, sorts_in}
 use Rattle.au_lives.specs.declared.lives.Sort.{Sort}
 use Rattle.au_meaning.specs.Meanings.{scope_of}
@@ -10,11 +10,11 @@ use Rattle.au_meaning.specs.Views.{Function}
 use Rattle.au_memory.specs.Forests.{empty, ready}
 use Rattle.au_modules.specs.Programs.{ModuleParts}
 use Rattle.au_names.specs.declared.targets.Target.{Target}
-use Rattle.au_names_ahead.specs.Lived.{loose_by}
-use Rattle.au_names_ahead.specs.Parts.{EachIn}
+use Rattle.au_lived_bodies.specs.Lived.{loose_by}
+use Rattle.au_lived_bodies.specs.Parts.{EachIn}
 use Rattle.au_program_lives.specs.Good.{AllLivesAreGood}
 use Rattle.au_rules.specs.Good.{AllDeclarationsAreGood}
-use Rattle.au_running_judgements.specs.Lives.{AheadAll, put_each}
+use Rattle.au_lived_bodies.specs.Lives.{AheadAll, put_each}
 use Rattle.au_syntax.specs.declared.modules.Part.TheVariants.{Body}
 use Rattle.au_type_texts.specs.Given.{Given}
 use Rattle.au_typing.specs.Derivations.{Derives}

@@ -22,29 +22,29 @@ use Rattle.au_modules.specs.Programs.{ModuleParts}
 use Rattle.au_names.specs.HeadsOf.{heads_of}
 use Rattle.au_names.specs.Standing.{Standing, definition_of, standing_at}
 use Rattle.au_promises.specs.Mentions.{type_parameters}
-use Rattle.au_closing.specs.Instances.{Instance}
+use Rattle.au_seen_views.specs.Instances.{Instance}
 use Rattle.au_typing.specs.Insides.{cases_defined, cases_of, fields_under, known_definition, typed_under, with_arguments}
 use Rattle.au_typing.specs.Outsides.{outside_of}
 use Rattle.au_typing.specs.Scopes.{Case, Typed}
 use Rattle.au_typing.specs.Trees.{NotedParts}
 use Rattle.au_typing.specs.Written.{all_typed, types_at}
-use Rattle.au_tables.specs.Tables.{DefinitionsFit, cases_written, types_of}
-use Rattle.au_tables.proofs.MadeLemmas.{cases_good}
-use Rattle.au_closed_meanings.specs.Generic.{view_under}
-use Rattle.au_known_types.specs.Known.{EachIsKnown, IsKnown, OutsideIsKnown}
-use Rattle.au_known_types.proofs.KnownLemmas.{named_parts}
-use Rattle.au_known_programs.proofs.OutsideLemmas.{fields_declared, fields_known, good_formed, outside_known}
-use Rattle.au_running_judgements.specs.Known.{Callables}
-use Rattle.au_running_records.proofs.RecordLemmas.{known_defined}
-use Rattle.au_standing_types.specs.Standing.{StandsFor}
-use Rattle.au_standing_types.proofs.FieldLemmas.{fields_last}
-use Rattle.au_standing_types.proofs.StandLemmas.{free_runs, reader_free, region_opens}
-use Rattle.au_seen_fields.proofs.SeenLemmas.{union_case}
+use Rattle.au_seen_views.specs.Tables.{DefinitionsFit, cases_written, types_of}
+use Rattle.au_seen_views.proofs.MadeLemmas.{cases_good}
+use Rattle.au_seen_views.specs.Generic.{view_under}
+use Rattle.au_seen_views.specs.KnownTypes.Known.{EachIsKnown, IsKnown, OutsideIsKnown}
+use Rattle.au_seen_views.proofs.KnownLemmas.{named_parts}
+use Rattle.au_checked_programs.proofs.OutsideLemmas.{fields_declared, fields_known, good_formed, outside_known}
+use Rattle.au_seen_views.specs.Known.{Callables}
+use Rattle.au_seen_views.proofs.RecordLemmas.{known_defined}
+use Rattle.au_seen_views.specs.Standing.{StandsFor}
+use Rattle.au_seen_views.proofs.FieldLemmas.{fields_last}
+use Rattle.au_seen_views.proofs.StandLemmas.{free_runs, reader_free, region_opens}
+use Rattle.au_seen_views.proofs.SeenLemmas.{union_case}
 use Rattle.au_seen_views.specs.Views.{DefinitionsAreApart, EachCaseIsKnown}
 use Rattle.au_seen_views.proofs.ViewLemmas.{record_viewed, union_viewed}
-use Rattle.au_typed_blocks.specs.Rounds.{RoundFits}
-use Rattle.au_checked.specs.Checked.{IsChecked}
-use Rattle.au_checked.proofs.DefinitionLemmas.{definitions_fit}
+use Rattle.au_seen_views.specs.Rounds.{RoundFits}
+use Rattle.au_checked_programs.specs.Checked.{IsChecked}
+use Rattle.au_checked_programs.proofs.DefinitionLemmas.{definitions_fit}
 use Rattle.au_checked_programs.proofs.FitLemmas.{declarations_fit, definitions_apart}
 use Rattle.au_round_programs.specs.Bodies.{CallsRunHere, ConstantsStand}
 

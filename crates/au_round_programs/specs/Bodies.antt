@@ -19,15 +19,15 @@ use Rattle.au_typing.specs.Scopes.{Scope}
 use Rattle.au_typing.specs.Trees.{NotedParts}
 use Rattle.au_meaning.specs.Names as meaning
 use Rattle.au_meaning.specs.Worlds.{Value}
-use Rattle.au_closing.specs.Instances.{Instance}
-use Rattle.au_closed_meanings.specs.Generic.{view_under}
-use Rattle.au_tables.specs.Tables.{types_of}
-use Rattle.au_running_judgements.specs.Known.{Callables}
-use Rattle.au_standing_types.specs.Standing.{StandsFor}
-use Rattle.au_typed_runs.specs.Frames.{FrameFits}
-use Rattle.au_typed_runs.specs.Laws.{CallsRun}
-use Rattle.au_typed_blocks.specs.Rounds.{RoundFits}
-use Rattle.au_checked.specs.Checked.{IsChecked}
+use Rattle.au_seen_views.specs.Instances.{Instance}
+use Rattle.au_seen_views.specs.Generic.{view_under}
+use Rattle.au_seen_views.specs.Tables.{types_of}
+use Rattle.au_seen_views.specs.Known.{Callables}
+use Rattle.au_seen_views.specs.Standing.{StandsFor}
+use Rattle.au_seen_views.specs.Frames.{FrameFits}
+use Rattle.au_seen_views.specs.Laws.{CallsRun}
+use Rattle.au_seen_views.specs.Rounds.{RoundFits}
+use Rattle.au_checked_programs.specs.Checked.{IsChecked}
 
 module _ (program : List ModuleParts) (noted : List NotedParts) (place : ℕ) (generics : List Bounded) (given : Given) where
   -- The constants that are seen in a body have values of their types, none of which is a record or a reference.

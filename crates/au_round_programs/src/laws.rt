@@ -5,9 +5,9 @@ ghost use Rattle.au_judged_types.specs.Bounds.{Bounded};
 ghost use Rattle.au_type_texts.specs.Given.{Given};
 ghost use Rattle.au_type_texts.specs.Types.{ClosedType};
 ghost use Rattle.au_modules.specs.Programs.{ModuleParts};
-ghost use Rattle.au_closing.specs.Instances.{Instance};
+ghost use Rattle.au_seen_views.specs.Instances.{Instance};
 ghost use Rattle.au_typing.specs.Trees.{NotedParts};
-ghost use Rattle.au_running_judgements.specs.Known.{Callables};
+ghost use Rattle.au_seen_views.specs.Known.{Callables};
 ghost use Rattle.au_round_programs.specs.Bodies.{RoundsFit};
 
 /// What is known round a body of a checked program fits, where constants stand and calls run.

@@ -23,12 +23,12 @@ use Rattle.au_typing.specs.Notes.{Note}
 use Rattle.au_typing.specs.Scopes.{Outside, Scope}
 use Rattle.au_meaning.specs.Names as meaning
 use Rattle.au_meaning.specs.Views.{View}
-use Rattle.au_known_types.specs.Known.{IsKnownIn, OutsideIsKnown, ScopeIsKnown}
-use Rattle.au_known_types.proofs.KnownLemmas.{unit_known}
-use Rattle.au_known_types.proofs.NotedLemmas.{written_known}
-use Rattle.au_running_judgements.specs.Blocks.{with_types}
-use Rattle.au_running_judgements.specs.Known.{Callables, InScope}
-use Rattle.au_running_judgements.specs.Lives.{put}
+use Rattle.au_typed_blocks.specs.KnownTypes.Known.{IsKnownIn, OutsideIsKnown, ScopeIsKnown}
+use Rattle.au_typed_blocks.proofs.KnownLemmas.{unit_known}
+use Rattle.au_typed_blocks.proofs.NotedLemmas.{written_known}
+use Rattle.au_typed_blocks.specs.Blocks.{with_types}
+use Rattle.au_typed_blocks.specs.Known.{Callables, InScope}
+use Rattle.au_typed_blocks.specs.Lives.{put}
 use Rattle.au_typed_blocks.specs.Rounds.{PlaceFits, RoundFits}
 use Rattle.au_typed_blocks.proofs.PlaceLemmas.{place_later, place_with}
 use Rattle.au_typed_bodies.specs.Begun.{AreMeant, BodyBegins, fields_given, kinds_given}

@@ -18,9 +18,9 @@ use Rattle.au_typing.specs.Notes.{Note}
 use Rattle.au_typing.specs.Scopes.{Outside, Scope}
 use Rattle.au_meaning.specs.Names as meaning
 use Rattle.au_meaning.specs.Views.{Field, View}
-use Rattle.au_known_types.specs.Known.{OutsideIsKnown}
-use Rattle.au_running_judgements.specs.Blocks.{with_types}
-use Rattle.au_running_judgements.specs.Known.{Callables, InScope}
+use Rattle.au_typed_blocks.specs.KnownTypes.Known.{OutsideIsKnown}
+use Rattle.au_typed_blocks.specs.Blocks.{with_types}
+use Rattle.au_typed_blocks.specs.Known.{Callables, InScope}
 use Rattle.au_typed_blocks.specs.Rounds.{PlaceFits, RoundFits}
 
 -- what is written for parameters means these types

@@ -27,13 +27,13 @@ use Rattle.au_names.specs.Standing.{Standing, body_at, defined_by, definition_fo
 use Rattle.au_names.specs.Standing.{standing_at, standing_from}
 use Rattle.au_names.proofs.AmongLemmas.{Among, contains}
 use Rattle.au_typing.specs.Trees.{NotedParts}
-use Rattle.au_closing_laws.specs.Gathered.{entry_of}
-use Rattle.au_closing_laws.proofs.DefinitionLemmas.{IsThere, stands_in}
-use Rattle.au_closing_laws.proofs.GatheredLemmas.{all_among, among_get, module_is, ships}
+use Rattle.au_checked.specs.Gathered.{entry_of}
+use Rattle.au_checked.proofs.ClosingLaws.DefinitionLemmas.{IsThere, stands_in}
+use Rattle.au_checked.proofs.GatheredLemmas.{all_among, among_get, module_is, ships}
 use Rattle.au_sound_calls.specs.Sound.{AreTyped}
-use Rattle.au_tables.specs.Tables.{BirthsAreShipped, box_text, buffer_text, is_of_births, root_text, terminal_text, types_of}
-use Rattle.au_tables.proofs.FormLemmas.{all_declared, boxes_alone, buffers_alone, cases_alone, grants_alone}
-use Rattle.au_tables.proofs.LawfulLemmas.{all_lawful}
+use Rattle.au_checked.specs.Tables.{BirthsAreShipped, box_text, buffer_text, is_of_births, root_text, terminal_text, types_of}
+use Rattle.au_checked.proofs.FormLemmas.{all_declared, boxes_alone, buffers_alone, cases_alone, grants_alone}
+use Rattle.au_checked.proofs.LawfulLemmas.{all_lawful}
 use Rattle.au_checked.specs.Checked.{IsChecked}
 use Rattle.au_checked.proofs.DefinitionLemmas.{definitions_fit}
 use Rattle.au_checked.proofs.RowLemmas.{IsHead, head_stands}

@@ -2,7 +2,7 @@
 use Rattle.std.specs.Prelude.{List}
 use Rattle.au_modules.specs.Programs.{ModuleParts}
 use Rattle.au_typing.specs.Trees.{NotedParts}
-use Rattle.au_tables.specs.Tables.{BirthsAreShipped, types_of}
+use Rattle.au_checked.specs.Tables.{BirthsAreShipped, types_of}
 use Rattle.au_sound_calls.specs.Sound.{AreTyped}
 use Rattle.au_checked.specs.Checked.{IsChecked}
 

@@ -1,4 +1,4 @@
-use Rattle.au_standing_types.specs.Standing.{StandsFor}
+use Rattle.au_typed_blocks.specs.Standing.{StandsFor}
 use Rattle.au_typed_bodies.proofs.BodyLemmas.{body_begins}
 use Rattle.au_typed_bodies.proofs.laws.bodies_begin.Goals as goal
 
