@@ -1,7 +1,3 @@
-pub use Rattle.au_closing.specs.Instances
-pub use Rattle.au_closing.specs.Leading
-pub use Rattle.au_closed_trees.specs.Parts
-pub use Rattle.au_closing.specs.Bodies
 pub mod Shipped
 pub mod Surroundings
 pub mod Programs

@@ -9,8 +9,8 @@ use Rattle.std.proofs.lemmas.List.Elements.{Contains-append_right}
 use Rattle.au_base.proofs.ListLemmas.{Contains-first, Contains-rest}
 use Rattle.au_types.specs.declared.parameters.Parameter.{Parameter}
 use Rattle.au_closed_meanings.specs.Generic.{field_seen, function_under}
-use Rattle.au_closed_meanings.specs.Parts.{ClosedField, field_under}
-use Rattle.au_closed_meanings.specs.Bodies.{BodyOf, body_in, is_method, method_body}
+use Rattle.au_closed_trees.specs.Parts.{ClosedField, field_under}
+use Rattle.au_closing.specs.Bodies.{BodyOf, body_in, is_method, method_body}
 use Rattle.au_closing_laws.proofs.BodyLemmas.{good_standing}
 use Rattle.au_closing_laws.proofs.GenericsLemmas.{body_stands, erased_there, of_declared, spot_there}
 use Rattle.au_closing_laws.proofs.GenericsLemmas.{text_there}

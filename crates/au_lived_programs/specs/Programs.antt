@@ -1,7 +1,7 @@
 -- In a program that is good by the rules each body is that of a good function.
 use Rattle.std.specs.Prelude.{◌≡◌, ℕ, ◌+◌, List, [], length, Some}
 use Rattle.au_closed_meanings.specs.Generic.{function_under}
-use Rattle.au_closed_meanings.specs.Bodies.{BodyOf, body_of}
+use Rattle.au_closing.specs.Bodies.{BodyOf, body_of}
 use Rattle.au_lived_bodies.specs.Kept.{Keeps}
 use Rattle.au_lived_bodies.specs.Bodies.{IsGoodFunction, sorts_in}
 use Rattle.au_lives.specs.declared.lives.Sort.{Sort}
