@@ -46,14 +46,14 @@ use Rattle.au_typing.specs.Statements.{IsReference}
 use Rattle.au_typing.specs.Trees.{NotedArms, NotedBranches, NotedStatement, NotedStatements}
 use Rattle.au_typed_blocks.specs.Besides.{Besides, BesidesAll, BesidesArms, BesidesTests, IsNewRegion, MayDropEach}
 use Rattle.au_typed_blocks.specs.Besides.{MayDropIn}
-use Rattle.au_kept_parts.specs.Kept as kept
-use Rattle.au_names_ahead.specs.Lived.{loose_by, may_drop}
-use Rattle.au_names_ahead.specs.Parts.{Each, EachArm, EachIn, EachTest}
-use Rattle.au_new_names.proofs.MarkLemmas.{inner_new, left_new, neutral, neutral_all, neutral_binds, neutral_enclosed}
-use Rattle.au_new_names.proofs.MarkLemmas.{neutral_join, neutral_stays, neutral_tests, right_new, Stays}
-use Rattle.au_numbered_lives.proofs.NumberLemmas.{AreSorted, many, many_bound, many_inside, many_tests, moved}
-use Rattle.au_numbered_lives.proofs.NumberLemmas.{plain, plus_zero, sorted}
-use Rattle.au_typed_lives.specs.Said.{types_of}
+use Rattle.au_lived_bodies.specs.Kept as kept
+use Rattle.au_lived_bodies.specs.Lived.{loose_by, may_drop}
+use Rattle.au_lived_bodies.specs.Parts.{Each, EachArm, EachIn, EachTest}
+use Rattle.au_lived_bodies.proofs.MarkLemmas.{inner_new, left_new, neutral, neutral_all, neutral_binds, neutral_enclosed}
+use Rattle.au_lived_bodies.proofs.MarkLemmas.{neutral_join, neutral_stays, neutral_tests, right_new, Stays}
+use Rattle.au_lived_bodies.proofs.NumberLemmas.{AreSorted, many, many_bound, many_inside, many_tests, moved}
+use Rattle.au_lived_bodies.proofs.NumberLemmas.{plain, plus_zero, sorted}
+use Rattle.au_lived_bodies.specs.Said.{types_of}
 use Rattle.au_lived_bodies.specs.Bodies.{sorts_in}
 use Rattle.au_lived_bodies.proofs.BodyLemmas.{bodies_ahead}
 use Rattle.au_asked_bodies.specs.Asked.{BodiesAreAsked}

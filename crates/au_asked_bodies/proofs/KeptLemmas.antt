@@ -7,8 +7,8 @@ use Rattle.au_syntax.specs.Expressions.{nil, path, arrow, call, named_call, pare
 use Rattle.au_syntax.specs.Expressions.{borrow, borrow_part, binary, negation, typed, choice, no_expressions}
 use Rattle.au_syntax.specs.Expressions.{expressions, no_arguments, arguments}
 use Rattle.au_typing.specs.Notes.{Note, NotedArguments, NotedExpression, NotedExpressions}
-use Rattle.au_kept_parts.specs.Kept as lives
-use Rattle.au_typed_runs.specs.Laws as runs
+use Rattle.au_lived_bodies.specs.Kept as lives
+use Rattle.au_typed_blocks.specs.TypedRuns.Laws as runs
 
 module _ {I : Type 0} (see : View I Note (Unit {0})) (scope : Scope) where
   right : (o : Operation) (b : NotedExpression) → lives.IsKeptBy see scope o b → runs.IsKeptBy see scope o b

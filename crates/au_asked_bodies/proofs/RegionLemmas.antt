@@ -21,10 +21,10 @@ use Rattle.au_syntax.specs.Modules.{Constrained}
 use Rattle.au_syntax.specs.Plain.{Bytes}
 use Rattle.au_types.specs.declared.types.DeclAt.{DeclAt}
 use Rattle.au_types.specs.Universes.{universe_in}
-use Rattle.au_typed_lives.specs.Said.{types_of}
+use Rattle.au_lived_bodies.specs.Said.{types_of}
 use Rattle.au_typing.specs.Bodies.{generics_in, outer_scope}
 use Rattle.au_typing.specs.Scopes.{Outside}
-use Rattle.au_new_names.proofs.MarkLemmas.{Stays, stays_on, stays_open}
+use Rattle.au_lived_bodies.proofs.MarkLemmas.{Stays, stays_on, stays_open}
 use Rattle.au_asked_bodies.specs.Asked.{AreInBlock}
 
 -- ---- blocks that stay open

@@ -10,7 +10,7 @@ use Rattle.au_syntax.specs.Plain.{Bytes}
 use Rattle.au_typing.specs.Notes.{Note}
 use Rattle.au_typing.specs.Scopes.{Outside}
 use Rattle.au_typed_blocks.specs.Besides.{BesidesAll}
-use Rattle.au_names_ahead.specs.Lived.{loose_by}
+use Rattle.au_lived_bodies.specs.Lived.{loose_by}
 use Rattle.au_lived_bodies.specs.Bodies.{IsGoodFunction, sorts_in}
 
 -- type parameters are declared among marks, each in a block that is open still

@@ -1,3 +1,7 @@
+pub use Rattle.au_closing.specs.Instances
+pub use Rattle.au_closing.specs.Leading
+pub use Rattle.au_closed_trees.specs.Parts
+pub use Rattle.au_closing.specs.Bodies
 pub mod Shipped
 pub mod Surroundings
 pub mod Programs

@@ -1,1 +1,3 @@
+pub use Rattle.au_known_types.specs.Known
+pub use Rattle.au_known_types.specs.Laws
 pub mod Standing
