@@ -1,3 +1,4 @@
+pub use Rattle.au_closing_laws.proofs.GenericsLemmas
 pub use Rattle.au_closing_laws.proofs.AcceptedLemmas
 pub use Rattle.au_closing_laws.proofs.FactLemmas
 pub use Rattle.au_closing_laws.proofs.OnceLemmas

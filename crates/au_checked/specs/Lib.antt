@@ -1,3 +1,5 @@
+pub use Rattle.au_closing.specs.Bodies
+pub use Rattle.au_closing.specs.Instances
 pub use Rattle.au_closing_laws.specs.Accepted
 pub use Rattle.au_closing_laws.specs.Programs
 pub use Rattle.au_closing_laws.specs.Trees

@@ -49,12 +49,12 @@ use Rattle.au_typing.specs.Written.{seen_in, types_at}
 use Rattle.au_typing.proofs.ErasureLemmas.{block_plain}
 use Rattle.au_closed_trees.specs.Parts.{field_under}
 use Rattle.au_closed_meanings.specs.Generic.{field_seen, function_under}
-use Rattle.au_closing.specs.Bodies.{BodyOf, body_in, body_of, is_method, method_body}
-use Rattle.au_closing.specs.Instances.{Instance}
-use Rattle.au_closing_laws.proofs.GenericsLemmas.{body_stands, erased_there}
+use Rattle.au_checked.specs.Bodies.{BodyOf, body_in, body_of, is_method, method_body}
+use Rattle.au_checked.specs.Instances.{Instance}
+use Rattle.au_checked.proofs.GenericsLemmas.{body_stands, erased_there}
 use Rattle.au_meaning.specs.Views.{Field, Function}
 use Rattle.au_checked.specs.Checked.{IsChecked}
-use Rattle.au_lived_bodies.specs.Bodies.{IsGoodFunction}
+use Rattle.au_asked_bodies.specs.Bodies.{IsGoodFunction}
 use Rattle.au_checked_bodies.specs.Known.{CheckedBodiesAreGood, IsKnownWell}
 use Rattle.au_checked_bodies.proofs.PlaceLemmas.{good_of_body, spot_of_body}
 use Rattle.au_checked_bodies.proofs.TextLemmas.{IsNewThere, function_new, item_new, method_new}

@@ -14,7 +14,7 @@ use Rattle.au_formed.specs.Text.{Spot, module_spots, spots_from, text, text_from
 use Rattle.au_typing.specs.Derivations.{GoodDeclaration, GoodDeclarations, GoodModules, GoodPart}
 use Rattle.au_typing.specs.Scopes.{Outside}
 use Rattle.au_typing.specs.Trees.{NotedDeclaration, NotedEntry, NotedParts}
-use Rattle.au_closing.specs.Bodies.{body_at, body_of_parts, declared_in}
+use Rattle.au_checked.specs.Bodies.{body_at, body_of_parts, declared_in}
 
 -- ---- the text of a program
 

@@ -3,7 +3,7 @@ use Rattle.std.proofs.Common.{◌≡◌, ℕ, zero, suc, Bool, true, false, cond
 use Rattle.std.proofs.Common.{Some, refl, sym, subst, ◌∙◌, append_assoc, append-nil}
 use Rattle.std.specs.Prelude.{slice_get}
 use Rattle.std.proofs.lemmas.Option.{none-some, same_Some}
-use Rattle.au_closing.specs.Bodies.{is_method}
+use Rattle.au_checked.specs.Bodies.{is_method}
 use Rattle.au_rules.specs.declared.marks.Kind.{Kind}
 use Rattle.au_rules.specs.declared.marks.Kind.TheVariants.{Callables, Values}
 use Rattle.au_rules.specs.declared.marks.Mark.{Mark}
@@ -16,8 +16,8 @@ use Rattle.au_syntax.specs.Modules.{Constrained, Header}
 use Rattle.au_syntax.specs.Plain.{Bytes, PlainMethod, PlainStatements}
 use Rattle.au_syntax.specs.Types.{Labelled}
 use Rattle.au_typing.specs.Trees.{NotedMethod, erase_block, erase_method}
-use Rattle.au_new_names.proofs.MarkLemmas.{Neutral, Stays, inner_new, left_new, neutral_all, neutral_enclosed}
-use Rattle.au_new_names.proofs.MarkLemmas.{neutral_join, neutral_stays, right_new, stays_on, stays_open}
+use Rattle.au_asked_bodies.proofs.MarkLemmas.{Neutral, Stays, inner_new, left_new, neutral_all, neutral_enclosed}
+use Rattle.au_asked_bodies.proofs.MarkLemmas.{neutral_join, neutral_stays, right_new, stays_on, stays_open}
 use Rattle.au_asked_bodies.specs.Asked.{AreInBlock}
 
 -- ---- lists of marks

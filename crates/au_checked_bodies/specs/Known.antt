@@ -5,12 +5,12 @@ use Rattle.au_modules.specs.Programs.{ModuleParts}
 use Rattle.au_typing.specs.Notes.{Note}
 use Rattle.au_typing.specs.Outsides.{outside_of}
 use Rattle.au_typing.specs.Trees.{NotedParts}
-use Rattle.au_closing.specs.Bodies.{BodyOf, body_of}
-use Rattle.au_closing.specs.Instances.{Instance}
+use Rattle.au_checked.specs.Bodies.{BodyOf, body_of}
+use Rattle.au_checked.specs.Instances.{Instance}
 use Rattle.au_closed_meanings.specs.Generic.{function_under, generic_functions}
 use Rattle.au_meaning.specs.Views.{Function}
 use Rattle.au_checked.specs.Checked.{IsChecked}
-use Rattle.au_lived_bodies.specs.Bodies.{IsGoodFunction}
+use Rattle.au_asked_bodies.specs.Bodies.{IsGoodFunction}
 use Rattle.au_asked_bodies.specs.Asked.{AreInBlock}
 
 -- A function that the meaning knows is that of a body in the text, which is good by what the body of its module sees

@@ -28,27 +28,27 @@ use Rattle.au_typing.specs.Scopes.{Scope}
 use Rattle.au_typing.specs.Trees.{NotedParts}
 use Rattle.au_typing.specs.Written.{types_at}
 use Rattle.au_closed_trees.specs.Parts.{field_under}
-use Rattle.au_closing.specs.Bodies.{BodyOf}
-use Rattle.au_closing.specs.Instances.{Instance}
+use Rattle.au_round_programs.specs.Closing.Bodies.{BodyOf}
+use Rattle.au_round_programs.specs.Instances.{Instance}
 use Rattle.au_meaning.specs.Names as meaning
 use Rattle.au_meaning.specs.Views.{Field}
-use Rattle.au_closed_meanings.specs.Generic.{field_seen, parameters_under}
-use Rattle.au_tables.specs.Tables.{types_of}
-use Rattle.au_known_programs.proofs.OutsideLemmas.{meant_parameters, outside_known}
+use Rattle.au_round_programs.specs.Generic.{field_seen, parameters_under}
+use Rattle.au_typed_bodies.specs.Tables.{types_of}
+use Rattle.au_round_programs.proofs.OutsideLemmas.{meant_parameters, outside_known}
 use Rattle.au_running_types.specs.Running.{running}
-use Rattle.au_running_judgements.specs.Blocks.{with_types}
-use Rattle.au_running_judgements.specs.Known.{Callables, InScope}
-use Rattle.au_standing_types.specs.Standing.{StandsFor}
-use Rattle.au_typed_blocks.specs.Besides.{BesidesAll}
-use Rattle.au_typed_blocks.specs.Rounds.{PlaceFits}
-use Rattle.au_typed_blocks.proofs.BlockLemmas.{all_run}
+use Rattle.au_typed_bodies.specs.Blocks.{with_types}
+use Rattle.au_typed_bodies.specs.Known.{Callables, InScope}
+use Rattle.au_typed_bodies.specs.Standing.{StandsFor}
+use Rattle.au_typed_bodies.specs.Besides.{BesidesAll}
+use Rattle.au_typed_bodies.specs.Rounds.{PlaceFits}
+use Rattle.au_typed_bodies.proofs.BlockLemmas.{all_run}
 use Rattle.au_typed_bodies.specs.Begun.{AreMeant, BodyBegins, fields_given, kinds_given}
 use Rattle.au_typed_bodies.proofs.BodyLemmas.{body_begins}
 use Rattle.au_round_programs.specs.Bodies.{CallsRunHere, ConstantsStand}
 use Rattle.au_round_programs.proofs.RoundLemmas.{round_fits}
-use Rattle.au_checked.specs.Checked.{IsChecked}
-use Rattle.au_checked.proofs.DefinitionLemmas.{definitions_fit}
-use Rattle.au_checked_programs.proofs.FitLemmas.{declarations_fit}
+use Rattle.au_round_programs.specs.Checked.{IsChecked}
+use Rattle.au_round_programs.proofs.DefinitionLemmas.{definitions_fit}
+use Rattle.au_round_programs.proofs.FitLemmas.{declarations_fit}
 use Rattle.au_running_bodies.specs.Bodies.{BodyRuns, generics_of, view_of}
 
 abbrev kept : Noting Meaning → Option Meaning

@@ -14,18 +14,18 @@ use Rattle.au_typing.specs.Bodies.{GoodBody, generics_in}
 use Rattle.au_typing.specs.Notes.{Note}
 use Rattle.au_typing.specs.Outsides.{outside_of}
 use Rattle.au_typing.specs.Trees.{NotedParts}
-use Rattle.au_closing.specs.Bodies.{BodyOf}
-use Rattle.au_closing.specs.Instances.{Instance}
+use Rattle.au_round_programs.specs.Closing.Bodies.{BodyOf}
+use Rattle.au_round_programs.specs.Instances.{Instance}
 use Rattle.au_meaning.specs.Names as meaning
 use Rattle.au_meaning.specs.Views.{View}
-use Rattle.au_closed_meanings.specs.Generic.{parameters_under, view_under}
-use Rattle.au_tables.specs.Tables.{types_of}
-use Rattle.au_running_judgements.specs.Blocks.{RunsAll, with_types}
-use Rattle.au_running_judgements.specs.Known.{Callables, InScope}
-use Rattle.au_standing_types.specs.Standing.{StandsFor}
-use Rattle.au_typed_blocks.specs.Besides.{BesidesAll}
+use Rattle.au_round_programs.specs.Generic.{parameters_under, view_under}
+use Rattle.au_typed_bodies.specs.Tables.{types_of}
+use Rattle.au_typed_bodies.specs.Blocks.{RunsAll, with_types}
+use Rattle.au_typed_bodies.specs.Known.{Callables, InScope}
+use Rattle.au_typed_bodies.specs.Standing.{StandsFor}
+use Rattle.au_typed_bodies.specs.Besides.{BesidesAll}
 use Rattle.au_round_programs.specs.Bodies.{CallsRunHere, ConstantsStand}
-use Rattle.au_checked.specs.Checked.{IsChecked}
+use Rattle.au_round_programs.specs.Checked.{IsChecked}
 
 module _ (program : List ModuleParts) (noted : List NotedParts) (body : BodyOf) (given : Given) where
   -- the type parameters of a body, and its view

@@ -4,10 +4,10 @@ ghost use Rattle.std.specs.Prelude.{ℕ, List, Option};
 ghost use Rattle.au_type_texts.specs.Given.{Given};
 ghost use Rattle.au_type_texts.specs.Types.{ClosedType};
 ghost use Rattle.au_modules.specs.Programs.{ModuleParts};
-ghost use Rattle.au_closing.specs.Bodies.{BodyOf};
-ghost use Rattle.au_closing.specs.Instances.{Instance};
+ghost use Rattle.au_round_programs.specs.Closing.Bodies.{BodyOf};
+ghost use Rattle.au_round_programs.specs.Instances.{Instance};
 ghost use Rattle.au_typing.specs.Trees.{NotedParts};
-ghost use Rattle.au_running_judgements.specs.Known.{Callables};
+ghost use Rattle.au_typed_bodies.specs.Known.{Callables};
 ghost use Rattle.au_running_bodies.specs.Bodies.{BodiesOfProgramsRun};
 
 /// A good body of a checked program runs, where constants stand and calls run.

@@ -1,3 +1,4 @@
+pub use Rattle.au_closing.specs.Bodies
 pub use Rattle.au_closed_tables.specs.ClosedNotes
 pub use Rattle.au_closed_tables.specs.Closing
 pub use Rattle.au_closed_meanings.specs.Surroundings

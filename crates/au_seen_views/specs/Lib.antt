@@ -1,3 +1,4 @@
+pub use Rattle.au_seen_fields.specs.Bodies
 pub use Rattle.au_seen_fields.specs.Tables
 pub use Rattle.au_seen_fields.specs.Instances
 pub use Rattle.au_seen_fields.specs.Standing
@@ -8,3 +9,5 @@ pub use Rattle.au_typed_blocks.specs.TypedRuns.Laws
 pub use Rattle.au_typed_blocks.specs.Rounds
 pub mod Views
 pub mod KnownTypes
+pub mod ClosedMeanings
+pub mod Closing

@@ -1,3 +1,4 @@
+pub use Rattle.au_standing_types.specs.Tables
 pub use Rattle.au_typed_runs.specs.Orders
 pub use Rattle.au_typed_runs.specs.Expressions
 pub use Rattle.au_typed_runs.specs.Picking
