@@ -44,13 +44,13 @@ use Rattle.au_seen_fields.specs.Seen.{field_closed}
 
 -- ---- the names of fields
 
-abbrev labels : List (Labelled Bytes) → List Bytes
+abbrev pub labels : List (Labelled Bytes) → List Bytes
 labels fields = map (λ (one : Labelled Bytes). one.name.name) fields
 
 abbrev pub names_known : List Typed → List Bytes
 names_known fields = map (λ (one : Typed). one.name) fields
 
-abbrev names_closed : List ClosedField → List Bytes
+abbrev pub names_closed : List ClosedField → List Bytes
 names_closed fields = map (λ (one : ClosedField). one.name) fields
 
 abbrev pub first_of : List Bytes → Bytes
@@ -95,7 +95,7 @@ module _ (names : List (Bytes × DeclAt)) (heads : List (DeclAt × Head)) (args 
   field_names params given (one ∷ rest) = ap (λ l. one.name.name ∷ l) (field_names params given rest)
 
   -- a case has the names that are written
-  abbrev NamesAre : ClosedCase → Option (List (Labelled Bytes)) → Type 0
+  abbrev pub NamesAre : ClosedCase → Option (List (Labelled Bytes)) → Type 0
   NamesAre one written = (l : List (Labelled Bytes)) × (written ≡ Some l) × (names_closed one.fields ≡ labels l)
 
   union_names : (params : List Parameter) (cases : List (Variant Bytes)) (tag : ℕ) (one : ClosedCase)
@@ -109,7 +109,7 @@ module _ (names : List (Bytes × DeclAt)) (heads : List (DeclAt × Head)) (args 
   )
   union_names params (v ∷ rest) (suc tag) one e = union_names params rest tag one e
 
-  declared_names : (says : PlainDeclaration) (tag : ℕ) (one : ClosedCase)
+  pub declared_names : (says : PlainDeclaration) (tag : ℕ) (one : ClosedCase)
       → slice_get (parts.declared_cases names heads args says) tag ≡ Some one
       → NamesAre one (slice_get (cases_written says) tag)
   declared_names (record_type at name params universe fields) zero one e = (
@@ -123,7 +123,7 @@ module _ (names : List (Bytes × DeclAt)) (heads : List (DeclAt × Head)) (args 
 
 -- ---- a case as it is seen
 
-at_case : (cases : List ClosedCase) (tag : ℕ) (one : ClosedCase) → slice_get cases tag ≡ Some one
+pub at_case : (cases : List ClosedCase) (tag : ℕ) (one : ClosedCase) → slice_get cases tag ≡ Some one
     → fields_at tag (map case_seen cases) ≡ Some (map field_seen one.fields)
 at_case [] tag one e = absurd (none-some one e)
 at_case (c ∷ rest) zero one e = ap (λ (x : ClosedCase). Some (map field_seen x.fields)) (same_Some c one e)
@@ -248,7 +248,7 @@ module _ (program : List ModuleParts) (fit : DefinitionsFit program) (params : L
       on (x, others, first, its, whole) (suc n) is later =
           later others its n (ap (λ l. slice_get l (suc n)) whole ∙ is)
 
-  union_case : (d : Standing) (args : Arguments) (says : PlainDeclaration) → d.says ≡ says → (all : List Case)
+  pub union_case : (d : Standing) (args : Arguments) (says : PlainDeclaration) → d.says ≡ says → (all : List Case)
       → union_cases program d args says ≡ Some all → (tag : ℕ) (one : Case) → slice_get all tag ≡ Some one
       → (written : List (Labelled Bytes)) × (slice_get (cases_written d.says) tag ≡ Some written)
       × (fields_under program d (type_parameters d.says) args written ≡ Some one.fields)
