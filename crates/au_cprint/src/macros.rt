@@ -160,6 +160,7 @@ pub const MACROS: &[u8] = br#"/* ---- functions */
 #define IS_GREATEREQUAL >=
 #define COMPARES(OP, KIND) SETS(S(sp - 2), LEFT(KIND) IS_##OP RIGHT(KIND), PLAIN)
 #define NEGATES (S(sp - 1).w ^= 1)
+/* the Option of a word */
 HELPER V option(int is_there, W what, W kind) {
   V v = { 1, PLAIN };
   if (is_there) {
@@ -178,6 +179,7 @@ typedef struct {
   const V *f;
   W n, tag, alone;
 } O;
+/* the cell, or none; the fields and how many they are; the case; and whether nothing else holds the cell */
 INLINED O opened(W word, W kind) {
   O o = { 0, lent, 0, 0, 1 };
   if (kind == DATA) {
@@ -511,7 +513,8 @@ FAR_CALL(WRITE_BYTE)
   static const uint32_t p_[] = { EACH(N, FIELD_FROM, __VA_ARGS__) }; \
   C *c_; \
   EITHER(far_make(&s[sp], TAG, p_, N - 1), \
-         sp -= N - 1, c_ = cell(N - 1, TAG), EACH(N, FIELD, __VA_ARGS__) PUSHES(WORD(c_), DATA), sp += N - 1); \
+         sp -= N - 1, c_ = cell(N - 1, TAG), EACH(N, FIELD, __VA_ARGS__) PUSHES(WORD(c_), DATA), \
+         sp += N - 1); \
   sp -= N - 2; }
 #define TAKE(SLOT) { \
   O o_; \
