@@ -17,6 +17,7 @@ pub mod programs;
 pub mod rows;
 mod types;
 
+pub use au_noting_programs::NotedProgram;
 pub use bodies::{Body, body_of};
 pub use calls::Bodies;
 pub use closing::close;

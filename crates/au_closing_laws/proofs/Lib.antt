@@ -7,26 +7,26 @@ mod TypedCallLemmas
 mod BodyLemmas
 mod MeantLemmas
 mod FitLemmas
-mod GenericsLemmas
+pub mod GenericsLemmas
 mod PutLemmas
 mod SameLemmas
-mod DefinitionLemmas
+pub mod DefinitionLemmas
 mod FunctionLemmas
 mod TypedLemmas
-mod GatheredLemmas
-mod FactLemmas
+pub mod GatheredLemmas
+pub mod FactLemmas
 mod TextLemmas
 mod ShippedMethodLemmas
 mod MethodLemmas
-mod HeadLemmas
+pub mod HeadLemmas
 mod ResolvedLemmas
 mod StandLemmas
 mod NotedStandLemmas
 mod PutStandLemmas
 mod MeantStandLemmas
 mod OutsideStandLemmas
-mod FieldLemmas
-mod OnceLemmas
-mod OwnTypeLemmas
-mod AcceptedLemmas
+pub mod FieldLemmas
+pub mod OnceLemmas
+pub mod OwnTypeLemmas
+pub mod AcceptedLemmas
 mod LeadLemmas

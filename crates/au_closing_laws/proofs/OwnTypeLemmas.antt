@@ -74,7 +74,7 @@ ordered (suc i) (suc j) = by (ordered i j)
 
 -- ---- type parameters as arguments for themselves
 
-universe_at : (qs : List (InUniverse Bytes)) (q : InUniverse Bytes) (rest : List (InUniverse Bytes)) →
+pub universe_at : (qs : List (InUniverse Bytes)) (q : InUniverse Bytes) (rest : List (InUniverse Bytes)) →
     universe_in (map parameter qs) q.name.name ≡ None
     → universe_in (map parameter (qs ++ q ∷ rest)) q.name.name ≡ Some q.universe
 universe_at [] q rest e = ap (λ b. cond b (Some q.universe) (universe_in (map parameter rest) q.name.name))
@@ -435,6 +435,15 @@ module _ (program : List ModuleParts) (at : DeclAt) (d : Standing) (name : Bytes
       on : (x : ℕ × PlainDeclaration) × Among x (declarations_of m) × Among (name, row) (under_names x) → Numbered row
       on (x, there, its) = to x there (among_map (λ n. (n, x)) (name, row) (type_names x.1) its)
 
+-- A type is that of a declaration with these type parameters, which are its arguments: its row has them.
+pub record IsItself (heads : List (DeclAt × Head)) (ps : List (InUniverse Bytes)) (t : Meaning) : Type 0 where
+  pub at : DeclAt
+  pub head : Head
+  pub is : named at (as_arguments (map parameter ps)) ≡ t
+  pub has : head_of heads at ≡ Some head
+  pub same : head.params ≡ map parameter ps
+  pub apart : AreApart ps
+
 module _ (program : List ModuleParts) (parts : AreOfParts program) (good : IsGood program)
     (once : AllNamesAreOnce program) where
   module _ (at : DeclAt) (d : Standing) (name : Bytes) (one : DeclaredType)
@@ -445,7 +454,7 @@ module _ (program : List ModuleParts) (parts : AreOfParts program) (good : IsGoo
     new = module_new program at.«module» m (once at.«module» m here)
 
     abbrev Stands : Meaning → Type 0
-    Stands t = StandsOver (heads_of program) (map parameter one.parameters) t
+    Stands t = IsItself (heads_of program) one.parameters t
 
     stands_as : (row : ℕ × PlainDeclaration) → tables.find name (flat_map under_names (declarations_of m)) ≡ Some row
         → Stands (named (record { «module» = at.«module»; decl = row.0 }) (as_arguments (map parameter one.parameters)))
@@ -455,12 +464,16 @@ module _ (program : List ModuleParts) (parts : AreOfParts program) (good : IsGoo
             ≡ Some head) → definition_of program (record { «module» = at.«module»; decl = row.0 }) ≡ Some d
             → Stands (named (record { «module» = at.«module»; decl = row.0 })
             (as_arguments (map parameter one.parameters)))
-        finish (head, has) defined =
-            itself_stands (heads_of program) (record { «module» = at.«module»; decl = row.0 }) head one.parameters has
-            (params_agree program parts good (record { «module» = at.«module»; decl = row.0 }) d defined head
-            has one declared)
-            (parameters_apart (module_standing at.«module» m) new at.decl d one
-            (sym (ap (standing_in at.«module» at.decl) here) ∙ found) declared)
+        finish (head, has) defined = record {
+          at = record { «module» = at.«module»; decl = row.0 };
+          head = head;
+          is = refl;
+          has = has;
+          same = params_agree program parts good (record { «module» = at.«module»; decl = row.0 }) d defined head
+              has one declared;
+          apart = parameters_apart (module_standing at.«module» m) new at.decl d one
+              (sym (ap (standing_in at.«module» at.decl) here) ∙ found) declared;
+        }
 
         reach : (s : Standing) → s.says ≡ row.1 →
             (definition_of program (record { «module» = at.«module»; decl = row.0 }) ≡ Some d)
@@ -507,8 +520,11 @@ module _ (program : List ModuleParts) (parts : AreOfParts program) (good : IsGoo
         on (x, number, is) = to x is (map_some (λ (y : Target). y.at)
             (tables.find name (owned Types d.place (slice_get program d.place))) x number)
 
-  pub own_types_hold : OwnTypesStand program
-  own_types_hold at d name one t found whole declared itself = by (stands_in program at d found)
+  pub own_types_are : (at : DeclAt) (d : Standing) (name : Bytes) (one : DeclaredType) (t : Meaning)
+      → standing_at program at ≡ Some d → whole_name d.says ≡ Some name → type_declared d.says ≡ Some one
+      → type_itself program d.place name (map parameter one.parameters) ≡ Some t
+      → IsItself (heads_of program) one.parameters t
+  own_types_are at d name one t found whole declared itself = by (stands_in program at d found)
     where
       placed : (m : ModuleParts) → IsThere at.«module» Interface (declarations_in m.interface) d
           ⊎ IsThere at.«module» Body (declarations_in m.body) d → d.place ≡ at.«module»
@@ -518,5 +534,11 @@ module _ (program : List ModuleParts) (parts : AreOfParts program) (good : IsGoo
       by : (m : ModuleParts) × (slice_get program at.«module» ≡ Some m)
           × (IsThere at.«module» Interface (declarations_in m.interface) d
           ⊎ IsThere at.«module» Body (declarations_in m.body) d)
-          → StandsOver (heads_of program) (map parameter one.parameters) t
+          → IsItself (heads_of program) one.parameters t
       by (m, here, its_part) = own_here at d name one found whole declared m here t (placed m its_part) itself
+
+  pub own_types_hold : OwnTypesStand program
+  own_types_hold at d name one t found whole declared itself =
+      let its = own_types_are at d name one t found whole declared itself in
+      subst (StandsOver (heads_of program) (map parameter one.parameters)) its.is
+      (itself_stands (heads_of program) its.at its.head one.parameters its.has its.same its.apart)

@@ -1,3 +1,10 @@
+pub use Rattle.au_acting.proofs.BehindLemmas
+pub use Rattle.au_acting.proofs.CasingLemmas
+pub use Rattle.au_acting.proofs.EndLemmas
+pub use Rattle.au_acting.proofs.NameLemmas
+pub use Rattle.au_acting.proofs.ReaderLemmas
+pub use Rattle.au_acting.proofs.StartLemmas
+pub use Rattle.au_acting.proofs.ValueLemmas
 pub mod FrameLemmas
 pub mod EntryLemmas
 pub mod ReturnLemmas

@@ -10,7 +10,7 @@ use Rattle.au_lowering.specs.Drafts.{drafted_from}
 use Rattle.au_lowering.specs.Closed.{body_seen}
 use Rattle.au_lowering.specs.Drafted.{drafted}
 use Rattle.au_lowered.specs.Drafts.{Written}
-use Rattle.au_lowering_expressions.specs.Wrote.{wrote}
+use Rattle.au_lowering_statements.specs.Wrote.{wrote}
 
 drafted_by : (functions : List Body) (rows : List Row) (numbers : ℕ → ℕ) (all : List Body)
     → map (drafted_from functions rows) all ≡ map drafted (functions_by functions rows numbers all)

@@ -1,3 +1,4 @@
+pub use Rattle.au_closed_programs.proofs.ClosedLemmas
 pub mod TableLemmas
 pub mod NumberLemmas
 pub mod CodedLemmas

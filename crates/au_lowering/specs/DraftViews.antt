@@ -1,6 +1,6 @@
 -- What the code's drafted functions say.
 use Rattle.std.specs.Prelude.{List, map}
-use Rattle.au_lowering_expressions.specs.Views.{drafts_said}
+use Rattle.au_lowering_statements.specs.LoweringExpressions.Views.{drafts_said}
 use Rattle.au_lowering.specs.declared.functions.Drafted as found
 use Rattle.au_lowering.specs.Drafted.{Drafted}
 

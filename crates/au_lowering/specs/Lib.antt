@@ -1,3 +1,8 @@
+pub use Rattle.au_closed_programs.specs.Faults
+pub use Rattle.au_closed_programs.specs.Said
+pub use Rattle.au_closed_programs.specs.Programs
+pub use Rattle.au_closed_programs.specs.declared.faults.CloseFault
+pub use Rattle.au_closed_programs.specs.declared.programs.ClosedProgram
 pub mod Views
 pub mod Drafts
 pub mod Keyed
@@ -6,3 +11,4 @@ pub mod DraftViews
 pub mod Closed
 pub mod Rows
 pub mod Answers
+pub mod ClosedPrograms

@@ -12,7 +12,7 @@ use crate::numbering::{collect, number_all};
 use crate::tables::Tables;
 use au_base::{Memory, Sequence};
 use au_low::Function;
-use au_lowering_expressions::Draft;
+use au_lowering_statements::Draft;
 use std::alloc::Global;
 
 /// The most instructions of all functions of a program.

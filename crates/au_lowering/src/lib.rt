@@ -14,6 +14,7 @@ pub mod seen;
 pub mod tables;
 pub mod telling;
 
+pub use au_closed_programs::{CloseFault, NotedProgram, close};
 pub use coding::lower_drafted;
 pub use faults::LowerFault;
 pub use functions::{Drafted, collect_functions, number_functions, passes_limit};

@@ -4,14 +4,14 @@ ghost use Rattle.std.specs.Prelude.{◌≡◌, [], ◌∷◌, IfOk, OnOk, map};
 ghost use Rattle.std.specs.Str.{bytes_eq};
 ghost use Rattle.au_type_texts.specs.Keys.{key_of};
 ghost use Rattle.au_lowered.specs.Programs.{texts_named, types_named};
-ghost use Rattle.au_lowering_expressions.specs.Views.{draft_said, drafts_said};
+ghost use Rattle.au_lowering_statements.specs.LoweringExpressions.Views.{draft_said, drafts_said};
 ghost use Rattle.au_lowering.specs.Keyed.{keyed};
 ghost use Rattle.au_graphs.specs.Reached.{adds};
 
 use crate::tables::Tables;
 use au_base::Memory;
 use au_low::Instr;
-use au_lowering_expressions::Draft;
+use au_lowering_statements::Draft;
 use std::alloc::Global;
 
 /// Puts the text and the type that an instruction names into the tables.

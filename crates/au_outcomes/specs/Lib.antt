@@ -1,3 +1,4 @@
+pub use Rattle.au_explain.specs.declared.lists.Lives
 pub use Rattle.au_explain.specs.Faults
 pub mod Refusals
 pub mod Lines
@@ -8,3 +9,5 @@ pub mod Outcomes
 pub mod Halts
 pub mod Reading
 pub mod Accepted
+pub mod Explain
+pub mod NotingPrograms

@@ -1,7 +1,9 @@
-//! Tests of calls that no program shows yet, and of the time that large programs take, in a crate of their
-//! own: a crate with tests is proved twice.
+//! Tests of calls that no program shows yet, and of the adapters over real files, in a crate of their own: a crate
+//! with tests is proved twice.
 #![tactic(auto)]
 
+#[cfg(test)]
+mod adapters;
 #[cfg(test)]
 mod calls;
 #[cfg(test)]
@@ -16,5 +18,3 @@ mod resolved;
 mod shipped;
 #[cfg(test)]
 mod texts;
-#[cfg(test)]
-mod times;

@@ -5,7 +5,7 @@ use Rattle.std.proofs.lemmas.Option.{slice_get-map}
 use Rattle.au_modules.specs.Programs.{ModuleParts}
 use Rattle.au_judged_types.specs.Meanings.{written_params}
 use Rattle.au_typing.specs.Trees.{NotedParts}
-use Rattle.au_noting_programs.specs.Faults.{IsDerived}
+use Rattle.au_lowering.specs.Faults.{IsDerived}
 use Rattle.au_typing.specs.Outsides.{outside_of}
 use Rattle.au_closing.specs.Bodies.{BodyOf, body_of}
 use Rattle.au_closing.specs.Closes.{ClosedFunction, body_closed, change_of, instance_closed}

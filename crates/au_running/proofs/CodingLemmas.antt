@@ -7,14 +7,14 @@ use Rattle.au_names.specs.declared.targets.Target.{Target}
 use Rattle.au_typing.specs.Outsides.{outside_of}
 use Rattle.au_typing.specs.Trees.{NotedParts}
 use Rattle.au_typing.proofs.ProgramLemmas.{two_are_one}
-use Rattle.au_noting_programs.specs.Faults.{IsDerived}
+use Rattle.au_lowering.specs.Faults.{IsDerived}
 use Rattle.au_closing.specs.Entries.{begins, entry_of}
-use Rattle.au_closed_programs.specs.Answers.{ClosesWithin, PassesNoLimit, TellsNoLimit}
-use Rattle.au_closed_programs.specs.Programs.{ClosedProgram}
-use Rattle.au_closed_programs.specs.declared.faults.CloseFault.{CloseFault}
-use Rattle.au_closed_programs.specs.declared.faults.CloseFault.TheVariants as closing
-use Rattle.au_closed_programs.specs.declared.programs.ClosedProgram as found
-use Rattle.au_closed_programs.proofs.ClosedLemmas.{one_program}
+use Rattle.au_lowering.specs.ClosedPrograms.Answers.{ClosesWithin, PassesNoLimit, TellsNoLimit}
+use Rattle.au_lowering.specs.Programs.{ClosedProgram}
+use Rattle.au_lowering.specs.CloseFault.{CloseFault}
+use Rattle.au_lowering.specs.CloseFault.TheVariants as closing
+use Rattle.au_lowering.specs.ClosedProgram as found
+use Rattle.au_lowering.proofs.ClosedLemmas.{one_program}
 use Rattle.au_lowering.specs.Closed.{is_too_long}
 
 -- for a program, as it is and as it was closed, with its notes, and an entry

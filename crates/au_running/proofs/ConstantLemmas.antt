@@ -30,7 +30,7 @@ use Rattle.au_typing.specs.Rules.{literal_kind}
 use Rattle.au_typing.specs.Bodies.{outer_scope}
 use Rattle.au_typing.specs.Derivations.{GoodDeclaration}
 use Rattle.au_typing.specs.Trees.{NotedDeclaration, NotedParts}
-use Rattle.au_noting_programs.specs.Faults.{IsDerived}
+use Rattle.au_lowering.specs.Faults.{IsDerived}
 use Rattle.au_typing.specs.Outsides.{outside_of}
 use Rattle.au_closed_trees.specs.Changes.{Change}
 use Rattle.au_closed_trees.specs.declared.notes.Literal.{Literal}

@@ -4,7 +4,7 @@ use Rattle.au_syntax.specs.Plain.{Bytes}
 use Rattle.au_modules.specs.Programs.{ModuleParts}
 use Rattle.au_typing.specs.Trees.{NotedParts}
 use Rattle.au_closed_trees.specs.ClosedNotes.{Callee, ClosedNote}
-use Rattle.au_closed_programs.specs.Programs.{ClosedProgram, Closes, plain_instance}
+use Rattle.au_lowering.specs.Programs.{ClosedProgram, Closes, plain_instance}
 use Rattle.au_lowering.specs.Closed.{body_seen, functions_numbered, row_seen, told_in}
 use Rattle.au_meaning.specs.Views.{Function}
 use Rattle.au_meaning.specs.Worlds.{Outcome, stuck}

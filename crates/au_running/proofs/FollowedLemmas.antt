@@ -12,13 +12,13 @@ use Rattle.au_type_texts.specs.Types.{ClosedType}
 use Rattle.au_closed_trees.specs.ClosedNotes.{Callee, ClosedNote}
 use Rattle.au_closing.specs.Closes.{ClosedFunction, ClosesFunctions}
 use Rattle.au_closing.specs.Instances.{Instance}
-use Rattle.au_closed_programs.specs.Programs.{ClosedProgram, TypeRow}
+use Rattle.au_lowering.specs.Programs.{ClosedProgram, TypeRow}
 use Rattle.au_closed_meanings.specs.Programs.{Body, Row, fields_at, linear_by, row_in, surroundings}
 use Rattle.au_closed_meanings.specs.Surroundings.{Surroundings, field_names}
 use Rattle.au_closed_meanings.specs.Closed.{function_closed, names_at, parameters_seen}
 use Rattle.au_closed_meanings.specs.Listed.{row_for, rows_for}
 use Rattle.au_typing.specs.Trees.{NotedParts}
-use Rattle.au_noting_programs.specs.Faults.{IsDerived}
+use Rattle.au_lowering.specs.Faults.{IsDerived}
 use Rattle.au_effects.specs.Parts.{along}
 use Rattle.au_meaning.specs.Views.{Field, Function}
 use Rattle.au_lowering.specs.Closed.{body_seen, row_seen, told_by, told_in}

@@ -32,3 +32,4 @@ pub mod GoodLemmas
 pub mod AskedLemmas
 pub mod ConstantLemmas
 pub mod JoinedLemmas
+pub mod ClosedPrograms

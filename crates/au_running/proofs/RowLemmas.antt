@@ -21,7 +21,7 @@ use Rattle.au_closed_trees.specs.Occurring as occur
 use Rattle.au_closed_trees.specs.Occurring.{counts_in, occurring, occurring_in_fields}
 use Rattle.au_closed_trees.specs.Types.{types_in_block}
 use Rattle.au_closing.specs.Closes.{ClosedFunction}
-use Rattle.au_closed_programs.specs.Programs.{ClosesTypes, TypeRow, row_of, types_in_function, types_in_functions}
+use Rattle.au_lowering.specs.Programs.{ClosesTypes, TypeRow, row_of, types_in_function, types_in_functions}
 use Rattle.au_closed_meanings.specs.InRow.{RowsSay}
 use Rattle.au_closed_meanings.specs.Listed.{ListsTypes, counts_by, rows_for}
 use Rattle.au_closed_meanings.proofs.ListedLemmas.{rows_say}

@@ -6,7 +6,7 @@ use Rattle.au_modules.specs.Programs.{ModuleParts}
 use Rattle.au_typing.specs.Trees.{NotedParts}
 use Rattle.au_closed_trees.specs.ClosedNotes.{Callee, ClosedNote}
 use Rattle.au_running.proofs.OnceLemmas.{closed_fields_are_once, closed_parameters_are_once}
-use Rattle.au_closed_programs.specs.Programs.{ClosedProgram, Closes, plain_instance}
+use Rattle.au_lowering.specs.Programs.{ClosedProgram, Closes, plain_instance}
 use Rattle.au_closed_meanings.specs.Kept.{SaysWhatIs}
 use Rattle.au_closed_meanings.specs.Listed.{counts_by}
 use Rattle.au_closed_meanings.specs.Numbers.{first_name, numbers_of}

@@ -11,7 +11,7 @@ use Rattle.au_low.specs.declared.endings.Ending.TheVariants as ending
 use Rattle.au_low.specs.Runs.{low_run}
 use Rattle.au_lowering.specs.Closed.{code_of}
 use Rattle.au_modules.specs.Programs.{ModuleParts}
-use Rattle.au_noting_programs.specs.Faults.{IsDerived}
+use Rattle.au_lowering.specs.Faults.{IsDerived}
 use Rattle.au_rules.specs.Good.{AllDeclarationsAreGood}
 use Rattle.au_runs.specs.Calls.{IsCut}
 use Rattle.au_running.specs.Came.{CodeEnds, CodeCompletes}

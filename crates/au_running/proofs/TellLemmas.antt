@@ -7,7 +7,7 @@ use Rattle.au_modules.specs.Programs.{ModuleParts}
 use Rattle.au_typing.specs.Trees.{NotedParts}
 use Rattle.au_type_texts.specs.Types.{ClosedType}
 use Rattle.au_closed_trees.specs.ClosedNotes.{Callee, ClosedNote}
-use Rattle.au_closed_programs.specs.Programs.{ClosedProgram, Closes, plain_instance}
+use Rattle.au_lowering.specs.Programs.{ClosedProgram, Closes, plain_instance}
 use Rattle.au_effects.specs.Worlds.{Deed}
 use Rattle.au_low.specs.Runs as low
 use Rattle.au_low.specs.Runs.{low_run}

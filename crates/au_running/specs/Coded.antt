@@ -1,7 +1,7 @@
 -- What is answered where a program's code is made.
 use Rattle.std.specs.Prelude.{◌≡◌, false, List, Result, Ok, Err}
-use Rattle.au_closed_programs.specs.Answers.{ClosesWithin}
-use Rattle.au_closed_programs.specs.Programs.{ClosedProgram}
+use Rattle.au_lowering.specs.ClosedPrograms.Answers.{ClosesWithin}
+use Rattle.au_lowering.specs.Programs.{ClosedProgram}
 use Rattle.au_typing.specs.Trees.{NotedParts}
 use Rattle.au_low.specs.declared.code.Code.{Code}
 use Rattle.au_lowering.specs.Closed.{code_of, is_too_long}

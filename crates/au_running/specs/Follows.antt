@@ -2,7 +2,7 @@
 use Rattle.std.specs.Prelude.{◌≡◌, ℕ, List}
 use Rattle.au_modules.specs.Programs.{ModuleParts}
 use Rattle.au_typing.specs.Trees.{NotedParts}
-use Rattle.au_closed_programs.specs.Programs.{ClosedProgram, Closes}
+use Rattle.au_lowering.specs.Programs.{ClosedProgram, Closes}
 use Rattle.au_closed_meanings.specs.Numbers.{numbers_of}
 use Rattle.au_lowering.specs.Closed.{functions_numbered, told_in}
 use Rattle.au_meaning.specs.Worlds.{stuck}

@@ -6,7 +6,7 @@ use Rattle.au_syntax.specs.Statements.{Statements}
 use Rattle.au_modules.specs.Programs.{ModuleParts}
 use Rattle.au_typing.specs.Returns.{block_returns}
 use Rattle.au_typing.specs.Trees.{NotedParts}
-use Rattle.au_noting_programs.specs.Faults.{IsDerived}
+use Rattle.au_lowering.specs.Faults.{IsDerived}
 use Rattle.au_closed_trees.specs.Changes.{Change}
 use Rattle.au_closed_trees.specs.Renoted.{block_renoted}
 use Rattle.au_closing.specs.Closes.{ClosedFunction, ClosesFunctions}

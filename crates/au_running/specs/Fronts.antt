@@ -3,7 +3,7 @@
 use Rattle.std.specs.Prelude.{◌≡◌, ℕ, ◌<◌, Bool, false, List, ◌++◌, Option, IfSome}
 use Rattle.std.specs.Option.{option_map}
 use Rattle.au_base.specs.Outside.{Adds, AddsFront}
-use Rattle.au_closed_programs.specs.Programs.{ClosedProgram, Closes}
+use Rattle.au_lowering.specs.Programs.{ClosedProgram, Closes}
 use Rattle.au_typing.specs.Trees.{NotedParts}
 use Rattle.au_low.specs.Runs.{low_run}
 use Rattle.au_low.specs.declared.code.Code.{Code}

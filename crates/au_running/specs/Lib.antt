@@ -1,4 +1,6 @@
-pub use Rattle.au_closed_programs.specs.Programs
+pub use Rattle.au_lowering.specs.ClosedPrograms.Answers
+pub use Rattle.au_lowering.specs.Closed
+pub use Rattle.au_lowering.specs.Programs
 pub mod Once
 pub mod Meant
 pub mod Shown

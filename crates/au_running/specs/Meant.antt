@@ -3,7 +3,7 @@ use Rattle.std.specs.Prelude.{ℕ, List}
 use Rattle.au_modules.specs.Programs.{ModuleParts}
 use Rattle.au_names.specs.declared.targets.Target.{Target}
 use Rattle.au_typing.specs.Trees.{NotedParts}
-use Rattle.au_closed_programs.specs.Programs.{plain_instance}
+use Rattle.au_lowering.specs.Programs.{plain_instance}
 use Rattle.au_closed_meanings.specs.Generic.{generic_functions}
 use Rattle.au_closed_meanings.specs.Numbers.{first_name}
 use Rattle.au_meaning.specs.Meanings.{mean}

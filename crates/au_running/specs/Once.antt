@@ -4,7 +4,7 @@ use Rattle.std.specs.Prelude.{List}
 use Rattle.au_modules.specs.Programs.{ModuleParts}
 use Rattle.au_rules.specs.Good.{AllDeclarationsAreGood}
 use Rattle.au_typing.specs.Trees.{NotedParts}
-use Rattle.au_noting_programs.specs.Faults.{IsDerived}
+use Rattle.au_lowering.specs.Faults.{IsDerived}
 use Rattle.au_closing.specs.Closes.{ClosedFunction, ClosesFunctions}
 use Rattle.au_closing.specs.Instances.{Instance}
 use Rattle.au_running.specs.Asked.{FieldsAreOnce, ParametersAreOnce}

@@ -6,8 +6,8 @@ use Rattle.au_base.specs.declared.places.Pos.{Pos}
 use Rattle.au_modules.specs.Programs.{ModuleParts}
 use Rattle.au_typing.specs.Trees.{NotedParts}
 use Rattle.au_closing.specs.Entries.{entry_of, not_of_the_form, nowhere}
-use Rattle.au_closed_programs.specs.Answers.{ClosesWithin, Passes}
-use Rattle.au_closed_programs.specs.Programs.{ClosedProgram}
+use Rattle.au_lowering.specs.ClosedPrograms.Answers.{ClosesWithin, Passes}
+use Rattle.au_lowering.specs.Programs.{ClosedProgram}
 use Rattle.au_effects.specs.Worlds.{Deed}
 use Rattle.au_low.specs.Runs.{low_run}
 use Rattle.au_lowering.specs.Answers.{too_long}

@@ -5,8 +5,8 @@ use Rattle.au_shipped.specs.declared.prims.AbortKind.TheVariants as kind
 use Rattle.au_modules.specs.Programs.{ModuleParts}
 use Rattle.au_typing.specs.Trees.{NotedParts}
 use Rattle.au_rules.specs.Good.{AllDeclarationsAreGood}
-use Rattle.au_noting_programs.specs.Faults.{IsDerived}
-use Rattle.au_closed_programs.specs.Programs.{ClosedProgram, Closes}
+use Rattle.au_lowering.specs.Faults.{IsDerived}
+use Rattle.au_lowering.specs.Programs.{ClosedProgram, Closes}
 use Rattle.au_low.specs.declared.code.Code.{Code}
 use Rattle.au_low.specs.declared.endings.Ending.{Ending}
 use Rattle.au_low.specs.declared.endings.Ending.TheVariants as ending

@@ -3,7 +3,7 @@ use Rattle.std.specs.Prelude.{◌≡◌, ℕ, ◌/◌, true, List, map}
 use Rattle.au_modules.specs.Programs.{ModuleParts}
 use Rattle.au_typing.specs.Trees.{NotedParts}
 use Rattle.au_type_texts.specs.Types.{ClosedType}
-use Rattle.au_closed_programs.specs.Programs.{ClosedProgram, Closes, TypeRow}
+use Rattle.au_lowering.specs.Programs.{ClosedProgram, Closes, TypeRow}
 use Rattle.au_effects.specs.Worlds.{Deed}
 use Rattle.au_low.specs.declared.code.Code.{Code}
 use Rattle.au_low.specs.Runs.{low_run}

@@ -1,20 +1,18 @@
 //! From an accepted program to its code.
 
 ghost use Rattle.std.specs.Prelude.{◌≡◌, List, false};
-ghost use Rattle.au_closed_programs.specs.Answers.{ClosesWithin};
-ghost use Rattle.au_closed_programs.specs.Programs.{ClosedProgram};
+ghost use Rattle.au_lowering.specs.ClosedPrograms.Answers.{ClosesWithin};
+ghost use Rattle.au_lowering.specs.Programs.{ClosedProgram};
 ghost use Rattle.au_lowering.specs.Closed.{is_too_long};
 ghost use Rattle.au_typing.specs.Trees.{NotedParts};
 ghost use Rattle.au_modules.specs.Slots as slots;
-ghost use Rattle.au_noting_programs.specs.Faults.{IsDerived};
+ghost use Rattle.au_lowering.specs.Faults.{IsDerived};
 ghost use Rattle.au_running.specs.Coded.{HasCode, IsProgramCode, TellsNoLimit};
 
 use crate::laws::{lowered_programs_run, lowered_programs_tell};
 use au_base::{Entry, Limit};
-use au_closed_programs::{CloseFault, close};
 use au_low::Code;
-use au_lowering::{LowerFault, lower};
-use au_noting_programs::NotedProgram;
+use au_lowering::{CloseFault, LowerFault, NotedProgram, close, lower};
 use std::alloc::Global;
 
 /// Why there is no code to run.

@@ -3,7 +3,7 @@
 ghost use Rattle.std.specs.Prelude.{◌≡◌, ◌⊎◌, false, List, IfOk, OnErr};
 ghost use Rattle.au_typing.specs.Trees.{NotedParts};
 ghost use Rattle.au_modules.specs.Slots as slots;
-ghost use Rattle.au_noting_programs.specs.Faults.{IsDerived};
+ghost use Rattle.au_lowering.specs.Faults.{IsDerived};
 ghost use Rattle.au_running.specs.Ran.{ProgramEnds, ProgramIsCut, IsIdle, is_read_fault, is_write_fault};
 ghost use Rattle.au_runs.specs.Calls.{Rose};
 
@@ -12,7 +12,7 @@ use crate::ends::run_code;
 use crate::laws::{lowered_programs_run, lowered_programs_tell};
 use crate::ran::{Ran, Report};
 use au_base::{Entry, Memory, Sink, Source};
-use au_noting_programs::NotedProgram;
+use au_lowering::NotedProgram;
 use std::alloc::Global;
 
 /// Runs an accepted program from the entry that is named by its module and its own name, for at most so many

@@ -78,6 +78,12 @@ module _ (types : Types) (owner : ClosedType → Option (List ℕ)) {I T C K : T
   IsWholeOf active names scope e t =
       (z : ℕ) → active z ≡ false → IsOf types owner see known names z (with_token z active) scope e t
 
+  -- A type has one case, and its fields are of these types: it may have `~` in it where they don't.
+  abbrev pub IsRecordOf : List Meaning → Meaning → Type 0
+  IsRecordOf kinds of =
+      (types.fields of 0 ≡ Some kinds)
+      × ((tag : ℕ) (others : List Meaning) → types.fields of tag ≡ Some others → tag ≡ 0)
+
   -- a name that is declared may be dropped where it is said so
   abbrev pub IsFine : ℕ → Meaning → Type 0
   IsFine number t = loose number ≡ true → MayDrop types t
@@ -111,10 +117,9 @@ module _ (types : Types) (owner : ClosedType → Option (List ℕ)) {I T C K : T
     Runs active number scope (declare at binding x t e) Q names =
         (of : Meaning) × IsWholeOf active names scope e of × IsFine number of × Q (put number of names)
     Runs active number scope (destructure at binds e) Q names =
-        (of : Meaning) × (fields : List Field) × (kinds : List Meaning)
-        × IsWholeOf active names scope e of × (fields_noted see (note_of e) ≡ Some fields)
-        × (types.fields of 0 ≡ Some kinds)
-        × ((tag : ℕ) (others : List Meaning) → types.fields of tag ≡ Some others → tag ≡ 0)
+        (fields : List Field) × (kinds : List Meaning) × (fields_noted see (note_of e) ≡ Some fields)
+        × ((z : ℕ) → active z ≡ false → (of : Meaning)
+        × IsOf types owner see known names z (with_token z active) scope e of × IsRecordOf kinds of)
         × ((bound : AreBound number fields kinds binds) × Q (with_types number bound.bound names))
     Runs active number scope (assign at x fields e) Q names =
         (of : Meaning) × IsWholeOf active names scope e of

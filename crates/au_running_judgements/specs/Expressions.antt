@@ -25,7 +25,7 @@ use Rattle.au_meaning.specs.Worlds.{Value}
 use Rattle.au_memory.specs.Loans.{Types}
 use Rattle.au_memory.specs.Shown.{IsPlain}
 use Rattle.au_lending.specs.Seeing.{LeadsOn}
-use Rattle.au_sound_calls.specs.Sound.{IsHomeOf}
+use Rattle.au_safe_steps.specs.Sound.{IsHomeOf}
 use Rattle.au_running_judgements.specs.Known.{AreActive, Callables, InScope, IsReference}
 use Rattle.au_safe_steps.specs.Orders.{AreApart, IsReordered}
 use Rattle.au_running_judgements.specs.Picking.{AreTypesUnder}

@@ -9,8 +9,8 @@ use Rattle.au_types.specs.declared.types.Region.{Region}
 use Rattle.au_types.specs.Types as type
 use Rattle.au_types.specs.Types.{Meaning, integer, reads, writes}
 use Rattle.au_memory.specs.Loans.{Types}
-use Rattle.au_sound_calls.specs.Granting.{IsOptionOf}
-use Rattle.au_sound_calls.specs.Sound.{IsHomeOf}
+use Rattle.au_safe_steps.specs.Granting.{IsOptionOf}
+use Rattle.au_safe_steps.specs.Sound.{IsHomeOf}
 use Rattle.au_running_judgements.specs.Known.{InScope}
 
 module _ (types : Types) (owner : ClosedType → Option (List ℕ)) (active : ℕ → Bool) where

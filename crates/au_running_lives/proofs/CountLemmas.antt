@@ -21,7 +21,7 @@ use Rattle.au_running_lives.specs.Counted.{AllSayFree, AreOneToOne, CountsAgree,
 module _ {I T C : Type 0} (see : View I T C) (x : Bytes) (free : Bool) (scope : Scope) (v : Variable)
     (there : variable_of scope x ≡ Some v) (unique : AreOneToOne scope) where
   -- a name is met where it is the one
-  met : (y : Bytes) (one : Counts) → where_of v.number (variable_of scope y) one ≡ where_named x y one
+  pub met : (y : Bytes) (one : Counts) → where_of v.number (variable_of scope y) one ≡ where_named x y one
   met y one = by (bytes_eq y x) refl (variable_of scope y) refl
     where
       self : where_of v.number (Some v) one ≡ one

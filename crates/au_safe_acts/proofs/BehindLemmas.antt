@@ -15,9 +15,9 @@ use Rattle.au_memory.specs.Loans.{Types}
 use Rattle.au_lending.specs.Laws.{IsReadable}
 use Rattle.au_borrows.specs.Orders.{Act}
 use Rattle.au_borrows.specs.Told.{Told, with_use}
-use Rattle.au_acting.specs.Safe.{IsSafe}
-use Rattle.au_acting.proofs.NameLemmas as names
-use Rattle.au_acting.proofs.ReaderLemmas as readers
+use Rattle.au_frames.specs.Safe.{IsSafe}
+use Rattle.au_frames.proofs.NameLemmas as names
+use Rattle.au_frames.proofs.ReaderLemmas as readers
 use Rattle.au_agreeing.specs.Stores.{memory_of, told_of}
 use Rattle.au_agreeing.proofs.StoreLemmas.{place_written}
 use Rattle.au_agreeing.proofs.ToldLemmas.{used_told}

@@ -10,8 +10,8 @@ use Rattle.au_memory.specs.Loans.{Types}
 use Rattle.au_lending.specs.Ending.{freed}
 use Rattle.au_borrows.specs.Orders.{Act}
 use Rattle.au_borrows.specs.Told.{with_closings}
-use Rattle.au_acting.proofs.EndLemmas as acting
-use Rattle.au_acting.proofs.StartLemmas.{agrees}
+use Rattle.au_frames.proofs.EndLemmas as acting
+use Rattle.au_frames.proofs.StartLemmas.{agrees}
 use Rattle.au_agreeing.specs.Stores.{memory_of, sizes_of, told_of}
 use Rattle.au_agreeing.proofs.ToldLemmas.{closed_told}
 use Rattle.au_frames.specs.Frames.{Frame, hold_at, type_at}

@@ -12,7 +12,7 @@ use Rattle.au_type_texts.specs.Types.{ClosedType}
 use Rattle.au_memory.specs.Forests.{Made}
 use Rattle.au_memory.specs.Loans.{Types}
 use Rattle.au_borrows.specs.Orders.{Act}
-use Rattle.au_acting.specs.Safe.{IsSafe}
+use Rattle.au_frames.specs.Safe.{IsSafe}
 use Rattle.au_agreeing.specs.Stores.{memory_of, sizes_of, told_of}
 use Rattle.au_agreeing.proofs.ListLemmas.{along_more, get_none}
 use Rattle.au_agreeing.proofs.StoreLemmas.{same_memory}

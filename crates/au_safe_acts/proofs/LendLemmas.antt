@@ -18,8 +18,8 @@ use Rattle.au_lending.specs.Holding.{with_hold}
 use Rattle.au_lending.specs.Laws.{IsReadable, also_watched}
 use Rattle.au_borrows.specs.Orders.{Act}
 use Rattle.au_borrows.specs.Told.{Told, with_opening}
-use Rattle.au_acting.specs.Safe.{IsSafe}
-use Rattle.au_acting.proofs.NameLemmas as names
+use Rattle.au_frames.specs.Safe.{IsSafe}
+use Rattle.au_frames.proofs.NameLemmas as names
 use Rattle.au_agreeing.specs.Stores.{memory_of, told_of}
 use Rattle.au_agreeing.proofs.StoreLemmas.{same_memory}
 use Rattle.au_agreeing.proofs.ToldLemmas.{opened_told}

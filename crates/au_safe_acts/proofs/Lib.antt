@@ -1,3 +1,14 @@
+pub use Rattle.au_borrows.proofs.InvariantLemmas
+pub use Rattle.au_agreeing.proofs.StoreLemmas
+pub use Rattle.au_agreeing.proofs.ToldLemmas
+pub use Rattle.au_frames.proofs.FrameLemmas
+pub use Rattle.au_frames.proofs.ReturnLemmas
+pub use Rattle.au_sound_calls.proofs.BoxLemmas
+pub use Rattle.au_sound_calls.proofs.BufferLemmas
+pub use Rattle.au_sound_calls.proofs.GrantLemmas
+pub use Rattle.au_sound_calls.proofs.OperationLemmas
+pub use Rattle.au_sound_calls.proofs.PrintLemmas
+pub use Rattle.au_sound_calls.proofs.SoundLemmas
 pub mod GoodLemmas
 pub mod NameLemmas
 pub mod CloseLemmas

@@ -14,10 +14,10 @@ use Rattle.au_memory.specs.Loans.{Types}
 use Rattle.au_lending.specs.Records.{fields_made, onto, types_made}
 use Rattle.au_borrows.specs.Orders.{Act}
 use Rattle.au_borrows.specs.Told.{with_birth}
-use Rattle.au_acting.specs.Safe.{IsSafe}
-use Rattle.au_acting.specs.Valuing.{with_spent}
-use Rattle.au_acting.proofs.ReaderLemmas as readers
-use Rattle.au_acting.proofs.ValueLemmas as values
+use Rattle.au_frames.specs.Safe.{IsSafe}
+use Rattle.au_frames.specs.Valuing.{with_spent}
+use Rattle.au_frames.proofs.ReaderLemmas as readers
+use Rattle.au_frames.proofs.ValueLemmas as values
 use Rattle.au_agreeing.specs.Stores.{memory_of, sizes_of, told_of}
 use Rattle.au_agreeing.proofs.StoreLemmas.{births_begin}
 use Rattle.au_agreeing.proofs.ToldLemmas.{births_told}

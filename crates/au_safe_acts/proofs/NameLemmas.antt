@@ -14,9 +14,9 @@ use Rattle.au_lending.specs.Laws.{IsReadable}
 use Rattle.au_lending.specs.Seeing.{LeadsOn}
 use Rattle.au_borrows.specs.Orders.{Act}
 use Rattle.au_borrows.specs.Told.{Told}
-use Rattle.au_acting.specs.Safe.{IsSafe}
-use Rattle.au_acting.proofs.NameLemmas as names
-use Rattle.au_acting.proofs.StartLemmas.{agrees}
+use Rattle.au_frames.specs.Safe.{IsSafe}
+use Rattle.au_frames.proofs.NameLemmas as names
+use Rattle.au_frames.proofs.StartLemmas.{agrees}
 use Rattle.au_agreeing.specs.Stores.{HasName, memory_of, sizes_of, told_of}
 use Rattle.au_agreeing.proofs.StoreLemmas.{has_name, name_memory, name_sizes, place_written}
 use Rattle.au_frames.specs.Frames.{Frame, filled, hold_at, standing, type_at}

@@ -17,12 +17,12 @@ use Rattle.au_memory.specs.Loans.{Types}
 use Rattle.au_lending.specs.Parting.{with_parts}
 use Rattle.au_lending.specs.Records.{onto, types_made}
 use Rattle.au_borrows.specs.Orders.{Act}
-use Rattle.au_acting.specs.Casing.{with_parts_seen}
-use Rattle.au_acting.specs.Safe.{IsSafe}
+use Rattle.au_frames.specs.Casing.{with_parts_seen}
+use Rattle.au_frames.specs.Safe.{IsSafe}
 use Rattle.au_borrows.specs.Told.{with_use}
-use Rattle.au_acting.proofs.BehindLemmas as behind
-use Rattle.au_acting.proofs.CasingLemmas as casing
-use Rattle.au_acting.proofs.ValueLemmas as values
+use Rattle.au_frames.proofs.BehindLemmas as behind
+use Rattle.au_frames.proofs.CasingLemmas as casing
+use Rattle.au_frames.proofs.ValueLemmas as values
 use Rattle.au_agreeing.specs.Stores.{memory_of, told_of}
 use Rattle.au_frames.specs.Frames.{Frame, hold_at, type_at}
 use Rattle.au_meaning.specs.Acts.{stored, tells_apart}

@@ -1,3 +1,9 @@
+pub use Rattle.au_borrows.specs.Orders
+pub use Rattle.au_borrows.specs.Told
+pub use Rattle.au_agreeing.specs.Stores
+pub use Rattle.au_frames.specs.Frames
+pub use Rattle.au_sound_calls.specs.Granting
+pub use Rattle.au_sound_calls.specs.Sound
 pub mod Good
 pub mod Naming
 pub mod Closing

@@ -1,3 +1,11 @@
+pub use Rattle.au_running_judgements.proofs.BehindLemmas
+pub use Rattle.au_running_judgements.proofs.CloseLemmas
+pub use Rattle.au_running_judgements.proofs.EnterLemmas
+pub use Rattle.au_running_judgements.proofs.GoodLemmas
+pub use Rattle.au_running_judgements.proofs.LendLemmas
+pub use Rattle.au_running_judgements.proofs.MakeLemmas
+pub use Rattle.au_running_judgements.proofs.NameLemmas
+pub use Rattle.au_running_judgements.proofs.TellLemmas
 pub mod OperatedLemmas
 pub mod NamedLemmas
 pub mod ShippedLemmas

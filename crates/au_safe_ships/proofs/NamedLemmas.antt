@@ -10,16 +10,16 @@ use Rattle.au_type_texts.specs.Types.{ClosedType}
 use Rattle.au_memory.specs.Forests.{Hold, Made, empty}
 use Rattle.au_memory.specs.Loans.{Types}
 use Rattle.au_borrows.specs.Orders.{Act}
-use Rattle.au_acting.proofs.StartLemmas.{agrees}
-use Rattle.au_agreeing.specs.Stores.{memory_of, told_of}
-use Rattle.au_frames.specs.Frames.{Frame, hold_at, type_at}
+use Rattle.au_running_judgements.proofs.StartLemmas.{agrees}
+use Rattle.au_running_judgements.specs.Stores.{memory_of, told_of}
+use Rattle.au_running_judgements.specs.Frames.{Frame, hold_at, type_at}
 use Rattle.au_meaning.specs.Acts as meaning
 use Rattle.au_meaning.specs.Ticks.{Out, needing}
 use Rattle.au_meaning.specs.Worlds.{Value, World}
-use Rattle.au_safe_acts.specs.Good.{Good, IsIn, lying_in}
-use Rattle.au_safe_steps.specs.Regions.{IsToken}
-use Rattle.au_safe_steps.proofs.ReachingLemmas.{operands_copy_well}
-use Rattle.au_safe_steps.proofs.RegionLemmas.{names_have_tokens, references_have_tokens}
+use Rattle.au_running_judgements.specs.Good.{Good, IsIn, lying_in}
+use Rattle.au_running_judgements.specs.Regions.{IsToken}
+use Rattle.au_running_judgements.proofs.ReachingLemmas.{operands_copy_well}
+use Rattle.au_running_judgements.proofs.RegionLemmas.{names_have_tokens, references_have_tokens}
 use Rattle.au_safe_ships.specs.Named.{EmptyNamesAreFree, NoNamedStatics, NoStatics, WritersLookWell}
 
 -- `Static` is no token

@@ -8,11 +8,11 @@ use Rattle.au_type_texts.specs.Types.{ClosedType}
 use Rattle.au_memory.specs.Forests.{Made}
 use Rattle.au_memory.specs.Loans.{Types}
 use Rattle.au_borrows.specs.Orders.{Act}
-use Rattle.au_frames.specs.Frames.{Frame, hold_at, type_at}
+use Rattle.au_running_judgements.specs.Frames.{Frame, hold_at, type_at}
 use Rattle.au_meaning.specs.Worlds.{World}
-use Rattle.au_sound_calls.proofs.OperationLemmas as operations
-use Rattle.au_safe_acts.specs.Good.{lying_in}
-use Rattle.au_safe_acts.proofs.CallLemmas.{comes_safely}
+use Rattle.au_running_judgements.proofs.OperationLemmas as operations
+use Rattle.au_running_judgements.specs.Good.{lying_in}
+use Rattle.au_running_judgements.proofs.CallLemmas.{comes_safely}
 use Rattle.au_safe_ships.specs.Operated.{ComparesWell, ComputesWell, EquatesWell, NegatesWell}
 
 module _ (types : Types) (owner : ClosedType → Option (List ℕ)) (acts : List Act) (fs : List Frame)

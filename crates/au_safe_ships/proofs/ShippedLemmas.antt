@@ -16,21 +16,21 @@ use Rattle.au_memory.specs.Forests.{Made}
 use Rattle.au_memory.specs.Loans.{Types}
 use Rattle.au_lending.specs.Records.{onto, types_made}
 use Rattle.au_borrows.specs.Orders.{Act, is_active}
-use Rattle.au_frames.specs.Frames.{Frame, hold_at, type_at}
+use Rattle.au_running_judgements.specs.Frames.{Frame, hold_at, type_at}
 use Rattle.au_meaning.specs.Acts.{ships_call, told}
 use Rattle.au_meaning.specs.Worlds.{Value, World}
-use Rattle.au_sound_calls.specs.Sound.{AreTyped, GoesWell}
-use Rattle.au_sound_calls.proofs.BoxLemmas as boxes
-use Rattle.au_sound_calls.proofs.BufferLemmas as buffers
-use Rattle.au_sound_calls.proofs.GrantLemmas as grants
-use Rattle.au_sound_calls.proofs.OperationLemmas as operations
-use Rattle.au_sound_calls.proofs.PrintLemmas as printing
-use Rattle.au_safe_acts.specs.Good.{Good, IsIn, lying_in}
-use Rattle.au_safe_acts.specs.Making.{values_of}
-use Rattle.au_safe_acts.proofs.CallLemmas.{comes_safely}
-use Rattle.au_safe_steps.specs.Regions.{IsToken}
-use Rattle.au_safe_steps.proofs.AnsweringLemmas.{answers_well, hears_well}
-use Rattle.au_safe_steps.proofs.RegionLemmas.{references_have_tokens}
+use Rattle.au_running_judgements.specs.Sound.{AreTyped, GoesWell}
+use Rattle.au_running_judgements.proofs.BoxLemmas as boxes
+use Rattle.au_running_judgements.proofs.BufferLemmas as buffers
+use Rattle.au_running_judgements.proofs.GrantLemmas as grants
+use Rattle.au_running_judgements.proofs.OperationLemmas as operations
+use Rattle.au_running_judgements.proofs.PrintLemmas as printing
+use Rattle.au_running_judgements.specs.Good.{Good, IsIn, lying_in}
+use Rattle.au_running_judgements.specs.Making.{values_of}
+use Rattle.au_running_judgements.proofs.CallLemmas.{comes_safely}
+use Rattle.au_running_judgements.specs.Regions.{IsToken}
+use Rattle.au_running_judgements.proofs.AnsweringLemmas.{answers_well, hears_well}
+use Rattle.au_running_judgements.proofs.RegionLemmas.{references_have_tokens}
 use Rattle.au_running_judgements.specs.Known.{InScope}
 use Rattle.au_running_judgements.specs.Shipping.{Ships}
 use Rattle.au_safe_ships.specs.Shipped.{ShipsWell}

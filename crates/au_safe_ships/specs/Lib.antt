@@ -1,3 +1,9 @@
+pub use Rattle.au_borrows.specs.Orders
+pub use Rattle.au_running_judgements.specs.Frames
+pub use Rattle.au_running_judgements.specs.Sound
+pub use Rattle.au_running_judgements.specs.Entering
+pub use Rattle.au_running_judgements.specs.Good
+pub use Rattle.au_running_judgements.specs.Making
 pub mod Shipped
 pub mod Operated
 pub mod Named

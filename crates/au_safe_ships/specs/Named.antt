@@ -10,13 +10,13 @@ use Rattle.au_memory.specs.Forests.{Hold, Made, empty}
 use Rattle.au_memory.specs.Loans.{Types}
 use Rattle.au_lending.specs.Laws.{IsReadable}
 use Rattle.au_borrows.specs.Orders.{Act, is_active}
-use Rattle.au_frames.specs.Frames.{Frame}
+use Rattle.au_running_judgements.specs.Frames.{Frame}
 use Rattle.au_meaning.specs.Acts as meaning
 use Rattle.au_meaning.specs.Acts.{looks}
 use Rattle.au_meaning.specs.Ticks.{needing}
 use Rattle.au_meaning.specs.Worlds.{Value, World}
-use Rattle.au_sound_calls.specs.Sound.{AreTyped}
-use Rattle.au_safe_acts.specs.Good.{Good, IsIn, IsRunning}
+use Rattle.au_running_judgements.specs.Sound.{AreTyped}
+use Rattle.au_running_judgements.specs.Good.{Good, IsIn, IsRunning}
 
 module _ (types : Types) (owner : ClosedType → Option (List ℕ)) (acts : List Act) (fs : List Frame)
     (sizes : List ℕ) (under : Made) (w : World) where

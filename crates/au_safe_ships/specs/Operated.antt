@@ -9,11 +9,11 @@ use Rattle.au_type_texts.specs.Types.{ClosedType}
 use Rattle.au_memory.specs.Forests.{Made}
 use Rattle.au_memory.specs.Loans.{Types}
 use Rattle.au_borrows.specs.Orders.{Act}
-use Rattle.au_frames.specs.Frames.{Frame}
+use Rattle.au_running_judgements.specs.Frames.{Frame}
 use Rattle.au_meaning.specs.Ticks.{comes}
 use Rattle.au_meaning.specs.Worlds.{Value, World}
-use Rattle.au_sound_calls.specs.Sound.{AreTyped}
-use Rattle.au_safe_acts.specs.Good.{Good, IsIn}
+use Rattle.au_running_judgements.specs.Sound.{AreTyped}
+use Rattle.au_running_judgements.specs.Good.{Good, IsIn}
 use Rattle.au_running_judgements.specs.Expressions.{IsEquality}
 
 module _ (types : Types) (owner : ClosedType → Option (List ℕ)) (acts : List Act) (fs : List Frame)

@@ -7,12 +7,12 @@ use Rattle.au_memory.specs.Forests.{Made}
 use Rattle.au_memory.specs.Loans.{Types}
 use Rattle.au_lending.specs.Records.{onto, types_made}
 use Rattle.au_borrows.specs.Orders.{Act, is_active}
-use Rattle.au_frames.specs.Frames.{Frame}
+use Rattle.au_running_judgements.specs.Frames.{Frame}
 use Rattle.au_meaning.specs.Acts.{ships_call}
 use Rattle.au_meaning.specs.Worlds.{Value, World}
-use Rattle.au_sound_calls.specs.Sound.{AreTyped}
-use Rattle.au_safe_acts.specs.Good.{Good, IsIn}
-use Rattle.au_safe_acts.specs.Making.{values_of}
+use Rattle.au_running_judgements.specs.Sound.{AreTyped}
+use Rattle.au_running_judgements.specs.Good.{Good, IsIn}
+use Rattle.au_running_judgements.specs.Making.{values_of}
 use Rattle.au_running_judgements.specs.Shipping.{Ships}
 
 module _ (types : Types) (owner : ClosedType → Option (List ℕ)) (acts : List Act) (fs : List Frame)

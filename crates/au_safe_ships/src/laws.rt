@@ -5,7 +5,7 @@ ghost use Rattle.au_type_texts.specs.Types.{ClosedType};
 ghost use Rattle.au_memory.specs.Forests.{Made};
 ghost use Rattle.au_memory.specs.Loans.{Types};
 ghost use Rattle.au_borrows.specs.Orders.{Act};
-ghost use Rattle.au_frames.specs.Frames.{Frame};
+ghost use Rattle.au_running_judgements.specs.Frames.{Frame};
 ghost use Rattle.au_meaning.specs.Worlds.{World};
 ghost use Rattle.au_safe_ships.specs.Named.{EmptyNamesAreFree, NoNamedStatics, NoStatics, WritersLookWell};
 ghost use Rattle.au_safe_ships.specs.Operated.{ComparesWell, ComputesWell, EquatesWell, NegatesWell};

@@ -5,8 +5,8 @@ use Rattle.au_effects.specs.Calls.{byte_read, of_one}
 use Rattle.au_type_texts.specs.Types.{ClosedType}
 use Rattle.au_memory.specs.Forests.{Made}
 use Rattle.au_memory.specs.Loans.{Types}
-use Rattle.au_borrows.specs.Orders.{Act}
-use Rattle.au_frames.specs.Frames.{Frame}
+use Rattle.au_safe_acts.specs.Orders.{Act}
+use Rattle.au_safe_acts.specs.Frames.{Frame}
 use Rattle.au_meaning.specs.Acts.{next_byte, other_bytes}
 use Rattle.au_meaning.specs.Worlds.{World}
 use Rattle.au_safe_acts.proofs.CallLemmas.{goes_safely}

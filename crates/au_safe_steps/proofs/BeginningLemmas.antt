@@ -8,20 +8,20 @@ use Rattle.au_type_texts.specs.Types.{ClosedType}
 use Rattle.au_memory.specs.Forests.{Made, empty}
 use Rattle.au_memory.specs.Loans.{Types}
 use Rattle.au_lending.specs.Records.{fields_made, types_made}
-use Rattle.au_borrows.specs.Orders.{Act}
-use Rattle.au_borrows.specs.Told.{with_birth}
+use Rattle.au_safe_acts.specs.Orders.{Act}
+use Rattle.au_safe_acts.specs.Told.{with_birth}
 use Rattle.au_acting.specs.Starting.{no_memory, nothing_told}
 use Rattle.au_acting.proofs.EndLemmas.{finishes}
 use Rattle.au_acting.proofs.GrantLemmas.{makes_roots}
 use Rattle.au_acting.proofs.StartLemmas.{agrees, starts}
 use Rattle.au_acting.proofs.ValueLemmas.{drops, opens_cases}
-use Rattle.au_agreeing.specs.Stores.{memory_of, told_of}
-use Rattle.au_agreeing.proofs.StoreLemmas.{births_begin}
-use Rattle.au_agreeing.proofs.ToldLemmas.{births_told}
-use Rattle.au_frames.specs.Frames.{Frame, hold_at, type_at}
+use Rattle.au_safe_acts.specs.Stores.{memory_of, told_of}
+use Rattle.au_safe_acts.proofs.StoreLemmas.{births_begin}
+use Rattle.au_safe_acts.proofs.ToldLemmas.{births_told}
+use Rattle.au_safe_acts.specs.Frames.{Frame, hold_at, type_at}
 use Rattle.au_meaning.specs.Meanings.{exit_in, first_world}
 use Rattle.au_meaning.specs.Worlds.{Borrow, World, exit}
-use Rattle.au_sound_calls.proofs.SoundLemmas.{home_fits, sound_as}
+use Rattle.au_safe_acts.proofs.SoundLemmas.{home_fits, sound_as}
 use Rattle.au_safe_acts.specs.Good.{IsIn, lying_in}
 use Rattle.au_safe_acts.proofs.CloseLemmas.{left_lying}
 use Rattle.au_safe_steps.specs.Beginning.{CountsLying, ExitsWell, FinishesWell, RootsComeWell, StartsWell}

@@ -9,14 +9,14 @@ use Rattle.au_type_texts.specs.Types.{ClosedType}
 use Rattle.au_memory.specs.Forests.{Made}
 use Rattle.au_memory.specs.Loans.{Types}
 use Rattle.au_lending.specs.Records.{onto}
-use Rattle.au_borrows.specs.Orders.{Act}
+use Rattle.au_safe_acts.specs.Orders.{Act}
 use Rattle.au_acting.specs.Safe.{IsSafe}
 use Rattle.au_acting.proofs.ValueLemmas.{drops, drops_writers}
-use Rattle.au_agreeing.specs.Stores.{memory_of, told_of}
-use Rattle.au_frames.specs.Frames.{Frame, hold_at, type_at}
+use Rattle.au_safe_acts.specs.Stores.{memory_of, told_of}
+use Rattle.au_safe_acts.specs.Frames.{Frame, hold_at, type_at}
 use Rattle.au_meaning.specs.Worlds.{World}
-use Rattle.au_sound_calls.proofs.PrintLemmas.{plain_gone}
-use Rattle.au_sound_calls.proofs.SoundLemmas.{number_is, sound_plain, told_well, truth_is}
+use Rattle.au_safe_acts.proofs.PrintLemmas.{plain_gone}
+use Rattle.au_safe_acts.proofs.SoundLemmas.{number_is, sound_plain, told_well, truth_is}
 use Rattle.au_safe_acts.specs.Good.{lying_in}
 use Rattle.au_safe_steps.specs.Coming.{DropsWell, NumbersAreTold, NumbersGoOn, PlainsComeWell, PlainsDropWell}
 use Rattle.au_safe_steps.specs.Coming.{ReordersWell, TellsWell, TruthsAreTold}

@@ -8,13 +8,13 @@ use Rattle.au_type_texts.specs.Types.{ClosedType}
 use Rattle.au_memory.specs.Forests.{Made, empty, ready}
 use Rattle.au_memory.specs.Loans.{Types}
 use Rattle.au_lending.specs.Records.{onto}
-use Rattle.au_borrows.specs.Orders.{Act}
-use Rattle.au_agreeing.specs.Stores.{HasName, memory_of, told_of}
-use Rattle.au_frames.specs.Frames.{Frame, IsLoose, filled, hold_at, standing, type_at}
-use Rattle.au_frames.proofs.ReturnLemmas.{forgets}
+use Rattle.au_safe_acts.specs.Orders.{Act}
+use Rattle.au_safe_acts.specs.Stores.{HasName, memory_of, told_of}
+use Rattle.au_safe_acts.specs.Frames.{Frame, IsLoose, filled, hold_at, standing, type_at}
+use Rattle.au_safe_acts.proofs.ReturnLemmas.{forgets}
 use Rattle.au_meaning.specs.Acts.{emptied, with_value, with_values}
 use Rattle.au_meaning.specs.Worlds.{Value, World}
-use Rattle.au_sound_calls.specs.Sound.{AreTyped}
+use Rattle.au_safe_acts.specs.Sound.{AreTyped}
 use Rattle.au_safe_acts.specs.Good.{IsIn, IsRunning, lying_in}
 use Rattle.au_safe_acts.specs.Making.{values_of}
 use Rattle.au_safe_acts.proofs.GoodLemmas.{frame_is, has_room}

@@ -10,8 +10,8 @@ use Rattle.au_type_texts.specs.Types.{ClosedType}
 use Rattle.au_memory.specs.Forests.{Hold, IsAmong, Made, empty, ready, shut, watched}
 use Rattle.au_memory.specs.Loans.{Types}
 use Rattle.au_lending.specs.Ending.{freed, left_watched, others_of}
-use Rattle.au_borrows.specs.Orders.{Act}
-use Rattle.au_frames.specs.Frames.{Frame}
+use Rattle.au_safe_acts.specs.Orders.{Act}
+use Rattle.au_safe_acts.specs.Frames.{Frame}
 use Rattle.au_meaning.specs.Acts.{closed_to, new_names}
 use Rattle.au_meaning.specs.Worlds.{Borrow, Store, Value, World}
 use Rattle.au_safe_acts.specs.Closing.{freed_frame, freed_frames}

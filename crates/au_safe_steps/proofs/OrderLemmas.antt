@@ -8,9 +8,9 @@ use Rattle.au_memory.specs.Loans.{Types, Table}
 use Rattle.au_memory.specs.Trees.{Value, Tree}
 use Rattle.au_lending.specs.Records.{onto}
 use Rattle.au_lending.proofs.ValueLemmas.{lent_counts}
-use Rattle.au_borrows.specs.Orders.{Act, is_active}
-use Rattle.au_borrows.specs.Told.{Told}
-use Rattle.au_borrows.proofs.InvariantLemmas.{keeps_on}
+use Rattle.au_safe_acts.specs.Orders.{Act, is_active}
+use Rattle.au_safe_acts.specs.Told.{Told}
+use Rattle.au_safe_acts.proofs.InvariantLemmas.{keeps_on}
 use Rattle.au_acting.specs.Safe.{IsSafe}
 use Rattle.au_acting.proofs.RowLemmas.{parts_same}
 use Rattle.au_safe_steps.specs.Orders.{IsReordered}

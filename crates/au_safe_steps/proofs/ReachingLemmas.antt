@@ -23,9 +23,9 @@ use Rattle.au_lending.specs.Laws.{IsReadable}
 use Rattle.au_lending.specs.Parting.{CasesAreAlone}
 use Rattle.au_lending.proofs.FillLemmas.{first_shown}
 use Rattle.au_lending.proofs.SeenLemmas.{part_pushed}
-use Rattle.au_borrows.specs.Orders.{Act, is_active}
-use Rattle.au_borrows.specs.Told.{Told, with_use}
-use Rattle.au_borrows.proofs.InvariantLemmas.{keeps_on}
+use Rattle.au_safe_acts.specs.Orders.{Act, is_active}
+use Rattle.au_safe_acts.specs.Told.{Told, with_use}
+use Rattle.au_safe_acts.proofs.InvariantLemmas.{keeps_on}
 use Rattle.au_acting.specs.Safe.{IsSafe}
 use Rattle.au_acting.proofs.NameLemmas as names
 use Rattle.au_acting.proofs.ReaderLemmas as readers
@@ -33,14 +33,14 @@ use Rattle.au_acting.proofs.ReferLemmas.{newest_writes, same_borrow, used_first}
 use Rattle.au_acting.proofs.RowLemmas.{parts_same}
 use Rattle.au_acting.proofs.TurnLemmas.{turns}
 use Rattle.au_acting.proofs.ValueLemmas.{drops_writers}
-use Rattle.au_agreeing.specs.Stores.{memory_of, told_of}
-use Rattle.au_frames.specs.Frames.{Frame, hold_at, type_at}
-use Rattle.au_frames.proofs.FrameLemmas.{own_hold, own_type}
+use Rattle.au_safe_acts.specs.Stores.{memory_of, told_of}
+use Rattle.au_safe_acts.specs.Frames.{Frame, hold_at, type_at}
+use Rattle.au_safe_acts.proofs.FrameLemmas.{own_hold, own_type}
 use Rattle.au_meaning.specs.Acts as acts'
 use Rattle.au_meaning.specs.Acts.{frame_in, looks, stored}
 use Rattle.au_meaning.specs.Ticks.{follows, found_in, needing, pure}
 use Rattle.au_meaning.specs.Worlds.{World}
-use Rattle.au_sound_calls.proofs.SoundLemmas.{sound_used}
+use Rattle.au_safe_acts.proofs.SoundLemmas.{sound_used}
 use Rattle.au_safe_acts.specs.Good.{Good, IsIn, lying_in}
 use Rattle.au_safe_acts.proofs.BehindLemmas.{begins_there, held_is}
 use Rattle.au_safe_acts.proofs.GoodLemmas.{frame_is}

@@ -13,10 +13,10 @@ use Rattle.au_memory.proofs.FormLemmas.{reader_form, writer_form}
 use Rattle.au_lending.specs.Laws.{IsReadable}
 use Rattle.au_lending.proofs.LookLemmas.{readable_stands}
 use Rattle.au_lending.proofs.RowLemmas.{find}
-use Rattle.au_borrows.specs.Orders.{is_active}
-use Rattle.au_agreeing.specs.Stores.{memory_of}
-use Rattle.au_frames.specs.Frames.{hold_at, type_at}
-use Rattle.au_frames.proofs.FrameLemmas.{own_hold, own_type}
+use Rattle.au_safe_acts.specs.Orders.{is_active}
+use Rattle.au_safe_acts.specs.Stores.{memory_of}
+use Rattle.au_safe_acts.specs.Frames.{hold_at, type_at}
+use Rattle.au_safe_acts.proofs.FrameLemmas.{own_hold, own_type}
 use Rattle.au_safe_steps.specs.Regions.{IsToken, NamesHaveTokens, ReferencesHaveTokens}
 
 module _ (types : Types) (forms : AreDeclared types) (s : Table) where

@@ -6,12 +6,12 @@ use Rattle.au_types.specs.Types.{Meaning}
 use Rattle.au_type_texts.specs.Types.{ClosedType}
 use Rattle.au_memory.specs.Forests.{Made}
 use Rattle.au_memory.specs.Loans.{Types}
-use Rattle.au_borrows.specs.Orders.{Act}
-use Rattle.au_frames.specs.Frames.{Frame}
+use Rattle.au_safe_acts.specs.Orders.{Act}
+use Rattle.au_safe_acts.specs.Frames.{Frame}
 use Rattle.au_meaning.specs.Acts.{closed_to}
 use Rattle.au_meaning.specs.Meanings.{exit_in, first_world, root_born}
 use Rattle.au_meaning.specs.Worlds.{Value, World, exit}
-use Rattle.au_sound_calls.specs.Sound.{AreTyped, IsHomeOf}
+use Rattle.au_safe_acts.specs.Sound.{AreTyped, IsHomeOf}
 use Rattle.au_safe_acts.specs.Good.{IsIn, lying_in}
 
 -- The first world is as it should be.

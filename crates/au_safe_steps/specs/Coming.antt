@@ -10,10 +10,10 @@ use Rattle.au_memory.specs.Loans.{Types}
 use Rattle.au_memory.specs.Shown.{IsPlain}
 use Rattle.au_lending.specs.Records.{onto}
 use Rattle.au_acting.specs.Turning.{IsBasic}
-use Rattle.au_borrows.specs.Orders.{Act}
-use Rattle.au_frames.specs.Frames.{Frame, IsDroppable}
+use Rattle.au_safe_acts.specs.Orders.{Act}
+use Rattle.au_safe_acts.specs.Frames.{Frame, IsDroppable}
 use Rattle.au_meaning.specs.Worlds.{Value, World}
-use Rattle.au_sound_calls.specs.Sound.{AreTyped}
+use Rattle.au_safe_acts.specs.Sound.{AreTyped}
 use Rattle.au_safe_acts.specs.Good.{IsIn, IsOrderly}
 use Rattle.au_safe_steps.specs.Orders.{IsReordered}
 

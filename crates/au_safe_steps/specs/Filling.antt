@@ -4,11 +4,11 @@ use Rattle.au_type_texts.specs.Types.{ClosedType}
 use Rattle.au_memory.specs.Forests.{Made, empty}
 use Rattle.au_memory.specs.Loans.{Types}
 use Rattle.au_lending.specs.Records.{onto}
-use Rattle.au_borrows.specs.Orders.{Act}
-use Rattle.au_frames.specs.Frames.{Frame, IsLoose, filled, standing}
+use Rattle.au_safe_acts.specs.Orders.{Act}
+use Rattle.au_safe_acts.specs.Frames.{Frame, IsLoose, filled, standing}
 use Rattle.au_meaning.specs.Acts.{emptied, with_values}
 use Rattle.au_meaning.specs.Worlds.{World}
-use Rattle.au_sound_calls.specs.Sound.{AreTyped}
+use Rattle.au_safe_acts.specs.Sound.{AreTyped}
 use Rattle.au_safe_acts.specs.Good.{IsIn, IsRunning}
 use Rattle.au_safe_acts.specs.Making.{values_of}
 

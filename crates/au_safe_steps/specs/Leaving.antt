@@ -3,8 +3,8 @@ use Rattle.std.specs.Prelude.{◌≡◌, ℕ, ◌+◌, List, [], ◌∷◌, ◌+
 use Rattle.au_type_texts.specs.Types.{ClosedType}
 use Rattle.au_memory.specs.Forests.{Hold, IsAmong, Made, empty, ready, shut, watched}
 use Rattle.au_memory.specs.Loans.{Types}
-use Rattle.au_borrows.specs.Orders.{Act}
-use Rattle.au_frames.specs.Frames.{Frame}
+use Rattle.au_safe_acts.specs.Orders.{Act}
+use Rattle.au_safe_acts.specs.Frames.{Frame}
 use Rattle.au_meaning.specs.Acts.{closed_to, new_names}
 use Rattle.au_meaning.specs.Worlds.{World}
 use Rattle.au_safe_acts.specs.Closing.{freed_frames}

@@ -1,3 +1,15 @@
+pub use Rattle.au_safe_acts.specs.Granting
+pub use Rattle.au_safe_acts.specs.Sound
+pub use Rattle.au_safe_acts.specs.Frames
+pub use Rattle.au_safe_acts.specs.Stores
+pub use Rattle.au_safe_acts.specs.Behind
+pub use Rattle.au_safe_acts.specs.Closing
+pub use Rattle.au_safe_acts.specs.Entering
+pub use Rattle.au_safe_acts.specs.Good
+pub use Rattle.au_safe_acts.specs.Lending
+pub use Rattle.au_safe_acts.specs.Making
+pub use Rattle.au_safe_acts.specs.Naming
+pub use Rattle.au_safe_acts.specs.Telling
 pub mod Orders
 pub mod Binding
 pub mod Coming

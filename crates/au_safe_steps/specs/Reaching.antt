@@ -8,13 +8,13 @@ use Rattle.au_memory.specs.Forests.{Made}
 use Rattle.au_memory.specs.Loans.{Types}
 use Rattle.au_lending.specs.Laws.{IsReadable}
 use Rattle.au_lending.specs.Seeing.{LeadsOn}
-use Rattle.au_borrows.specs.Orders.{Act, is_active}
-use Rattle.au_frames.specs.Frames.{Frame}
+use Rattle.au_safe_acts.specs.Orders.{Act, is_active}
+use Rattle.au_safe_acts.specs.Frames.{Frame}
 use Rattle.au_meaning.specs.Acts as meaning
 use Rattle.au_meaning.specs.Acts.{looks, refers}
 use Rattle.au_meaning.specs.Ticks.{follows, gives, needing, pure}
 use Rattle.au_meaning.specs.Worlds.{Value, World}
-use Rattle.au_sound_calls.specs.Sound.{AreTyped}
+use Rattle.au_safe_acts.specs.Sound.{AreTyped}
 use Rattle.au_safe_acts.specs.Good.{Good, IsIn, IsRunning}
 
 module _ (types : Types) (owner : ClosedType → Option (List ℕ)) (acts : List Act) (fs : List Frame)

@@ -7,10 +7,10 @@ use Rattle.au_type_texts.specs.Types.{ClosedType}
 use Rattle.au_memory.specs.Forests.{Made}
 use Rattle.au_memory.specs.Loans.{Types}
 use Rattle.au_lending.specs.Laws.{IsReadable}
-use Rattle.au_borrows.specs.Orders.{Act}
-use Rattle.au_frames.specs.Frames.{Frame}
+use Rattle.au_safe_acts.specs.Orders.{Act}
+use Rattle.au_safe_acts.specs.Frames.{Frame}
 use Rattle.au_meaning.specs.Worlds.{Value, World}
-use Rattle.au_sound_calls.specs.Sound.{AreTyped}
+use Rattle.au_safe_acts.specs.Sound.{AreTyped}
 use Rattle.au_safe_acts.specs.Good.{IsIn}
 
 -- a region is a token

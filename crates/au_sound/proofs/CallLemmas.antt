@@ -10,8 +10,8 @@ use Rattle.au_memory.specs.Forests.{Hold, Made, empty}
 use Rattle.au_memory.specs.Loans.{Types}
 use Rattle.au_lending.specs.Ending.{freed}
 use Rattle.au_lending.specs.Records.{onto, types_made}
-use Rattle.au_borrows.specs.Orders.{Act, is_active}
-use Rattle.au_frames.specs.Frames.{Frame, frame_of}
+use Rattle.au_safe_ships.specs.Orders.{Act, is_active}
+use Rattle.au_safe_ships.specs.Frames.{Frame, frame_of}
 use Rattle.au_meaning.specs.Acts.{begins, closed_to, closing, ends_frame, new_names}
 use Rattle.au_meaning.specs.Meanings.{call_at, enters, returned, scope_of}
 use Rattle.au_meaning.specs.Names.{names_in_block}
@@ -19,16 +19,16 @@ use Rattle.au_meaning.specs.Statements.{Flow, and_then, empties, falls, returns,
 use Rattle.au_meaning.specs.Ticks.{Action, Out, aborts, cut, does, follows, gives, no_rule, pure, ◌>>=◌, ◌>>◌}
 use Rattle.au_meaning.specs.Views.{Function}
 use Rattle.au_meaning.specs.Worlds.{Value, World}
-use Rattle.au_safe_acts.specs.Good.{Good, IsIn, IsRunning, lying_in}
-use Rattle.au_safe_acts.specs.Making.{values_of}
-use Rattle.au_safe_acts.proofs.GoodLemmas.{good_so, good_then}
-use Rattle.au_running_judgements.specs.Blocks.{AllRun, MayDrop, MayRun, Names, with_types}
-use Rattle.au_running_judgements.specs.Known.{AreActive, Callables}
-use Rattle.au_running_judgements.specs.Lives.{IsOver, Standing, freed_each, put_each}
-use Rattle.au_sound_expressions.specs.Safe.{AllWait, CallsSafe, Waits, frame}
-use Rattle.au_sound_expressions.proofs.LeafLemmas.{good_where, length_values}
-use Rattle.au_sound_expressions.proofs.PickLemmas.{length_types}
-use Rattle.au_sound_expressions.proofs.WholeLemmas.{good_closing}
+use Rattle.au_safe_ships.specs.Good.{Good, IsIn, IsRunning, lying_in}
+use Rattle.au_safe_ships.specs.Making.{values_of}
+use Rattle.au_safe_ships.proofs.GoodLemmas.{good_so, good_then}
+use Rattle.au_sound_blocks.specs.Blocks.{AllRun, MayDrop, MayRun, Names, with_types}
+use Rattle.au_sound_blocks.specs.Known.{AreActive, Callables}
+use Rattle.au_sound_blocks.specs.Lives.{IsOver, Standing, freed_each, put_each}
+use Rattle.au_sound_blocks.specs.Safe.{AllWait, CallsSafe, Waits, frame}
+use Rattle.au_sound_blocks.proofs.LeafLemmas.{good_where, length_values}
+use Rattle.au_sound_blocks.proofs.PickLemmas.{length_types}
+use Rattle.au_sound_blocks.proofs.WholeLemmas.{good_closing}
 use Rattle.au_sound_blocks.specs.Flows.{Going, Returned, tokens}
 use Rattle.au_sound_blocks.proofs.FormLemmas.{fine_each}
 use Rattle.au_sound_blocks.proofs.FrameLemmas.{each_after, each_way}

@@ -11,16 +11,16 @@ use Rattle.au_type_texts.specs.Types.{ClosedType}
 use Rattle.au_memory.specs.Forests.{Made}
 use Rattle.au_memory.specs.Loans.{Types}
 use Rattle.au_lending.specs.Ending.{freed}
-use Rattle.au_borrows.specs.Orders.{Act, AreSorted, AreStacked, is_active}
-use Rattle.au_frames.specs.Frames.{Frame}
+use Rattle.au_safe_ships.specs.Orders.{Act, AreSorted, AreStacked, is_active}
+use Rattle.au_safe_ships.specs.Frames.{Frame}
 use Rattle.au_meaning.specs.Acts.{closed_to}
 use Rattle.au_meaning.specs.Worlds.{Borrow, Store, World}
-use Rattle.au_safe_acts.specs.Good.{IsIn, lying_in}
-use Rattle.au_running_judgements.specs.Blocks.{Names}
-use Rattle.au_running_judgements.specs.Lives.{Standing, freed_each}
-use Rattle.au_sound_expressions.specs.Actions.{ActionsAreSafe}
-use Rattle.au_sound_expressions.specs.Safe.{AllWait, frame}
-use Rattle.au_sound_expressions.proofs.WaitLemmas.{all_more, frames_stay}
+use Rattle.au_safe_ships.specs.Good.{IsIn, lying_in}
+use Rattle.au_sound_blocks.specs.Blocks.{Names}
+use Rattle.au_sound_blocks.specs.Lives.{Standing, freed_each}
+use Rattle.au_sound_blocks.specs.Actions.{ActionsAreSafe}
+use Rattle.au_sound_blocks.specs.Safe.{AllWait, frame}
+use Rattle.au_sound_blocks.proofs.WaitLemmas.{all_more, frames_stay}
 use Rattle.au_sound_blocks.specs.Flows.{IsBottom, tokens}
 use Rattle.au_sound_blocks.proofs.StateLemmas.{more_active}
 

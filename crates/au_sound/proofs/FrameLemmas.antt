@@ -7,11 +7,11 @@ use Rattle.std.proofs.Math.ListN.{length-append}
 use Rattle.au_memory.specs.Forests as forest
 use Rattle.au_memory.specs.Forests.{Made, empty}
 use Rattle.au_lending.specs.Records.{types_made}
-use Rattle.au_frames.specs.Frames.{frame_of}
+use Rattle.au_safe_ships.specs.Frames.{frame_of}
 use Rattle.au_meaning.specs.Acts.{new_names}
 use Rattle.au_meaning.specs.Worlds.{Value}
-use Rattle.au_running_judgements.specs.Blocks.{Names, with_types}
-use Rattle.au_running_judgements.specs.Lives.{put, put_each}
+use Rattle.au_sound_blocks.specs.Blocks.{Names, with_types}
+use Rattle.au_sound_blocks.specs.Lives.{put, put_each}
 use Rattle.au_sound_blocks.proofs.FrameLemmas.{each_after, each_before, each_in, put_own, types_before}
 
 -- ---- how its names stand

@@ -4,14 +4,14 @@ use Rattle.au_effects.specs.Values.{root}
 use Rattle.au_type_texts.specs.Types.{ClosedType}
 use Rattle.au_types.specs.Types.{Meaning}
 use Rattle.au_memory.specs.Loans.{Types}
-use Rattle.au_borrows.specs.Orders.{is_active}
+use Rattle.au_safe_ships.specs.Orders.{is_active}
 use Rattle.au_meaning.specs.Meanings.{begun, call_at, first_world, parameters_of, root_born, seen}
 use Rattle.au_meaning.specs.Ticks.{Out, aborts, cut, gives, no_rule}
 use Rattle.au_meaning.specs.Views.{Field, Function}
 use Rattle.au_meaning.specs.Worlds.{Value, World}
-use Rattle.au_safe_acts.specs.Good.{Good, IsIn, lying_in}
-use Rattle.au_running_judgements.specs.Blocks.{AllRun}
-use Rattle.au_running_judgements.specs.Known.{AreActive, Callables}
+use Rattle.au_safe_ships.specs.Good.{Good, IsIn, lying_in}
+use Rattle.au_sound_blocks.specs.Blocks.{AllRun}
+use Rattle.au_sound_blocks.specs.Known.{AreActive, Callables}
 use Rattle.au_sound_blocks.proofs.LoopLemmas.{good_does}
 use Rattle.au_safe_steps.specs.Beginning.{IsExitOf}
 use Rattle.au_sound.specs.Runs.{EndsWell, IsSeenWell, RunsAreSafe, RunsWell, TakesRoot}

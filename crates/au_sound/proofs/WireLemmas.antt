@@ -5,14 +5,14 @@ use Rattle.au_type_texts.specs.Types.{ClosedType}
 use Rattle.au_types.specs.Types as type
 use Rattle.au_memory.specs.Loans.{Types}
 use Rattle.au_memory.specs.Shown.{IsPlain}
-use Rattle.au_sound_calls.specs.Sound.{AreTyped}
-use Rattle.au_safe_acts.proofs.BehindLemmas.{readers_read_well, writers_put_well, writers_read_well}
-use Rattle.au_safe_acts.proofs.CloseLemmas.{tokens_begin, tokens_end}
-use Rattle.au_safe_acts.proofs.EnterLemmas.{enters_well, leaves_well}
-use Rattle.au_safe_acts.proofs.LendLemmas.{lends_well, reads_well, relends_well}
-use Rattle.au_safe_acts.proofs.MakeLemmas.{apart_well, copies_well, makes_free_well, makes_linear_well}
-use Rattle.au_safe_acts.proofs.NameLemmas.{holds_well, looks_well, moves_well, sets_well}
-use Rattle.au_safe_acts.proofs.TellLemmas.{tells_readers_well, tells_values_well, tells_writers_well}
+use Rattle.au_safe_ships.specs.Sound.{AreTyped}
+use Rattle.au_safe_ships.proofs.BehindLemmas.{readers_read_well, writers_put_well, writers_read_well}
+use Rattle.au_safe_ships.proofs.CloseLemmas.{tokens_begin, tokens_end}
+use Rattle.au_safe_ships.proofs.EnterLemmas.{enters_well, leaves_well}
+use Rattle.au_safe_ships.proofs.LendLemmas.{lends_well, reads_well, relends_well}
+use Rattle.au_safe_ships.proofs.MakeLemmas.{apart_well, copies_well, makes_free_well, makes_linear_well}
+use Rattle.au_safe_ships.proofs.NameLemmas.{holds_well, looks_well, moves_well, sets_well}
+use Rattle.au_safe_ships.proofs.TellLemmas.{tells_readers_well, tells_values_well, tells_writers_well}
 use Rattle.au_safe_steps.proofs.BeginningLemmas.{counts_lying, exits_well, finishes_well, roots_come_well, starts_well}
 use Rattle.au_safe_steps.proofs.ComingLemmas.{drops_well, numbers_are_told, numbers_go_on, plains_come_well}
 use Rattle.au_safe_steps.proofs.ComingLemmas.{plains_drop_well, reorders_well, tells_well}
@@ -22,7 +22,7 @@ use Rattle.au_safe_steps.proofs.ReachingLemmas.{copies_writers_well, refers_well
 use Rattle.au_safe_ships.proofs.NamedLemmas.{empty_names_are_free, no_named_statics, no_statics, writers_look_well}
 use Rattle.au_safe_ships.proofs.OperatedLemmas.{compares_well, computes_well, equates_well, negates_well}
 use Rattle.au_safe_ships.proofs.ShippedLemmas.{ships_well}
-use Rattle.au_sound_expressions.specs.Actions.{ActionsAreSafe}
+use Rattle.au_sound_blocks.specs.Actions.{ActionsAreSafe}
 use Rattle.au_sound_blocks.specs.Steps.{StepsAreSafe}
 use Rattle.au_sound.specs.Runs.{RunsAreSafe}
 

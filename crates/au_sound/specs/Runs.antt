@@ -5,16 +5,16 @@ use Rattle.au_type_texts.specs.Types.{ClosedType}
 use Rattle.au_types.specs.Types.{Meaning}
 use Rattle.au_memory.specs.Forests.{Made}
 use Rattle.au_memory.specs.Loans.{Types}
-use Rattle.au_borrows.specs.Orders.{Act}
-use Rattle.au_frames.specs.Frames.{Frame}
+use Rattle.au_safe_ships.specs.Orders.{Act}
+use Rattle.au_safe_ships.specs.Frames.{Frame}
 use Rattle.au_meaning.specs.Meanings.{mean, parameters_of}
 use Rattle.au_meaning.specs.Views.{Field, Function}
 use Rattle.au_meaning.specs.Worlds.{Ending, Outcome, World, abort, exit, running, stuck}
-use Rattle.au_safe_acts.specs.Entering.{EntersWell, LeavesWell}
-use Rattle.au_sound_calls.specs.Sound.{IsHomeOf}
+use Rattle.au_safe_ships.specs.Entering.{EntersWell, LeavesWell}
+use Rattle.au_safe_ships.specs.Sound.{IsHomeOf}
 use Rattle.au_safe_steps.specs.Beginning.{ExitsWell, FinishesWell, IsExitOf, RootsComeWell, StartsWell}
-use Rattle.au_running_judgements.specs.Blocks.{AllRun}
-use Rattle.au_running_judgements.specs.Known.{Callables}
+use Rattle.au_sound_blocks.specs.Blocks.{AllRun}
+use Rattle.au_sound_blocks.specs.Known.{Callables}
 use Rattle.au_sound_blocks.specs.Steps.{StepsAreSafe}
 
 -- Each action of a run is safe.

@@ -4,8 +4,8 @@ ghost use Rattle.std.specs.Prelude.{ℕ, List, Option};
 ghost use Rattle.au_type_texts.specs.Types.{ClosedType};
 ghost use Rattle.au_memory.specs.Loans.{Types};
 ghost use Rattle.au_meaning.specs.Views.{Function};
-ghost use Rattle.au_sound_calls.specs.Sound.{AreTyped};
-ghost use Rattle.au_running_judgements.specs.Known.{Callables};
+ghost use Rattle.au_safe_ships.specs.Sound.{AreTyped};
+ghost use Rattle.au_sound_blocks.specs.Known.{Callables};
 ghost use Rattle.au_sound.specs.Runs.{RunsWell};
 
 /// Where each function may be run at each key at which it is called, every run from an entry is seen well.

@@ -1,5 +1,5 @@
 -- Statements that take values apart, and that assign.
-use Rattle.std.proofs.Common.{◌≡◌, inl, inr, ℕ, ◌+◌, ◌≤◌, ◌==◌, Bool, true, List, ◌∷◌}
+use Rattle.std.proofs.Common.{◌≡◌, inl, inr, ℕ, ◌+◌, ◌≤◌, ◌==◌, Bool, true, false, List, ◌∷◌}
 use Rattle.std.proofs.Common.{◌++◌, length, Option, Some, None, sym, ap, subst, ◌∙◌}
 use Rattle.std.proofs.lemmas.Bool.{eq-eqb}
 use Rattle.au_type_texts.specs.Types.{ClosedType}
@@ -16,8 +16,8 @@ use Rattle.au_memory.specs.Forests.{Hold, Made, empty}
 use Rattle.au_memory.specs.Loans.{Types}
 use Rattle.au_lending.specs.Laws.{IsReadable}
 use Rattle.au_lending.specs.Records.{onto, types_made}
-use Rattle.au_borrows.specs.Orders.{Act, is_active}
-use Rattle.au_frames.specs.Frames.{Frame}
+use Rattle.au_sound_expressions.specs.Orders.{Act, is_active}
+use Rattle.au_sound_expressions.specs.Frames.{Frame}
 use Rattle.au_meaning.specs.Acts.{apart, puts, refers, sets}
 use Rattle.au_meaning.specs.Expressions.{note_of, whole}
 use Rattle.au_meaning.specs.Names.{Scope, Variable, path_numbers}
@@ -26,14 +26,14 @@ use Rattle.au_meaning.specs.Statements.{takes_apart}
 use Rattle.au_meaning.specs.Ticks.{Action, follows, needing, pure, tick, where_true, ◌>>=◌, ◌>>◌}
 use Rattle.au_meaning.specs.Views.{Field, View}
 use Rattle.au_meaning.specs.Worlds.{Value, World}
-use Rattle.au_safe_acts.specs.Good.{Good, IsIn, IsRunning, lying_in}
-use Rattle.au_safe_acts.specs.Making.{values_of}
-use Rattle.au_safe_acts.proofs.GoodLemmas.{good_needing, good_then}
-use Rattle.au_running_judgements.specs.Blocks.{AreBound, IsWholeOf, Names, with_types}
-use Rattle.au_running_judgements.specs.Expressions.{IsNamed, LooksInto, Reaches}
-use Rattle.au_running_judgements.specs.Known.{Callables, InScope}
-use Rattle.au_running_judgements.specs.Lives.{AreReady, Standing, Steps, after_whole, put_each, stand}
-use Rattle.au_running_judgements.specs.Uses.{uses, where_of}
+use Rattle.au_sound_expressions.specs.Good.{Good, IsIn, IsRunning, lying_in}
+use Rattle.au_sound_expressions.specs.Making.{values_of}
+use Rattle.au_sound_expressions.proofs.GoodLemmas.{good_needing, good_then}
+use Rattle.au_sound_expressions.specs.Blocks.{AreBound, IsRecordOf, IsWholeOf, Names, with_types}
+use Rattle.au_sound_expressions.specs.Expressions.{IsNamed, IsOf, LooksInto, Reaches}
+use Rattle.au_sound_expressions.specs.Known.{Callables, InScope, with_token}
+use Rattle.au_sound_expressions.specs.Lives.{AreReady, Standing, Steps, after_whole, put_each, stand}
+use Rattle.au_sound_expressions.specs.Uses.{uses, where_of}
 use Rattle.au_sound_expressions.specs.Safe.{AllWait, CallsSafe, frame}
 use Rattle.au_sound_expressions.proofs.HoldLemmas.{is_readable, is_ready, plus_nothing, where_own}
 use Rattle.au_sound_expressions.proofs.LeafLemmas.{good_where}
@@ -41,7 +41,8 @@ use Rattle.au_sound_blocks.specs.Steps.{StepsAreSafe}
 use Rattle.au_sound_blocks.proofs.FormLemmas.{binds_good, good_apart, some_same}
 use Rattle.au_sound_blocks.proofs.FrameLemmas.{types_before}
 use Rattle.au_sound_blocks.proofs.LeaveLemmas.{follows_apart, good_puts, good_sets}
-use Rattle.au_sound_blocks.proofs.StateLemmas.{Ends, Goes, falls_on, goes_with, ticks_on, value_safe}
+use Rattle.au_sound_blocks.proofs.StateLemmas.{Ends, Goes, Valued, falls_on, goes_with, ticks_on, value_safe}
+use Rattle.au_sound_blocks.proofs.StateLemmas.{values_safe}
 
 -- the one that is met is good for its own count
 pub met_one : (x : Variable) (one : Counts) (h : Standing) → AreReady h (λ k. where_of k (Some x) one)
@@ -85,20 +86,31 @@ module _ (types : Types) (owner : ClosedType → Option (List ℕ)) (laws : Step
 
   pub destructure_safe : (number : ℕ) (scope : Scope) (e : Expression Bytes T C) (binds : List (Bound Bytes))
       (own : List Act) (A : Standing → Type 0) (R : Names → Type 0) (h : Standing) (names : Names) (under : Made)
-      (w : World) (ticks : ℕ) (of : Meaning) (fields : List Field) (kinds : List Meaning)
-      → IsWholeOf types owner see known result loose (is_active (own ++ below)) names scope e of
-      → fields_noted see (note_of e) ≡ Some fields → types.fields of 0 ≡ Some kinds
-      → ((tag : ℕ) (others : List Meaning) → types.fields of tag ≡ Some others → tag ≡ 0)
+      (w : World) (ticks : ℕ) (fields : List Field) (kinds : List Meaning)
+      → ((z : ℕ) → is_active (own ++ below) z ≡ false → (of : Meaning)
+      × IsOf types owner see known names z (with_token z (is_active (own ++ below))) scope e of
+      × IsRecordOf types owner see known result loose kinds of)
+      → fields_noted see (note_of e) ≡ Some fields
       → (bound : AreBound types owner see known result loose number fields kinds binds)
       → R (with_types number bound.bound names)
       → Steps see loose scope e h (λ g. A (put_each number (length binds) forest.ready g))
       → number + length binds ≤ size → Gos own number h names under w
       → Good owner (Ending own number (number + length binds) names A R under)
       ((whole see invoke scope e >>= (λ v. tick (takes_apart see number binds (note_of e) v))) w ticks)
-  destructure_safe number scope e binds own A R h names under w ticks of fields kinds fits noted parted only bound says
-      steps room going =
-      after_value number (number + length binds) scope e of own A R h names under w ticks
-      (λ v. takes_apart see number binds (note_of e) v) fits steps.0 going opened
+  destructure_safe number scope e binds own A R h names under w ticks fields kinds fits noted bound says steps room going =
+      good_then owner
+      (Valued types owner laws loose result below base fs sizes size running own number
+      (IsRecordOf types owner see known result loose kinds) (after_whole see loose scope e h) names under)
+      (Ending own number (number + length binds) names A R under) (whole see invoke scope e w ticks)
+      (λ v. tick (takes_apart see number binds (note_of e) v))
+      (values_safe types owner laws loose result below base fs sizes size running see known invoke calls_safe waiting
+      (IsRecordOf types owner see known result loose kinds) scope e own number h names under w ticks
+      (λ z off. let fit = fits z off in (fit.0, fit.2, fit.1)) steps.0 going)
+      (λ v n left valued.
+      ticks_on types owner laws loose result below base fs sizes size running
+      (Ending own number (number + length binds) names A R under) (takes_apart see number binds (note_of e) v) own number
+      (after_whole see loose scope e h) names ((v, valued.of) ∷ under) n left valued.going
+      (λ more. opened v valued.of valued.is n more valued.going))
     where
       g : Standing
       g = after_whole see loose scope e h
@@ -106,21 +118,21 @@ module _ (types : Types) (owner : ClosedType → Option (List ℕ)) (laws : Step
       q : Flow → World → Type 0
       q = Ending own number (number + length binds) names A R under
 
-      mid : ℕ × List Value → World → Type 0
-      mid p n =
+      mid : Meaning → ℕ × List Value → World → Type 0
+      mid of p n =
           (parts : Made) × (p.1 ≡ values_of parts) × (types.fields of p.0 ≡ Some (types_made parts))
           × IsIn types owner (own ++ below) (frame (after_whole see loose scope e h) names ∷ fs) sizes (onto parts under) n
 
-      filled : (p : ℕ × List Value) (m : World) (more : ℕ) (parts : Made) → p.1 ≡ values_of parts
-          → types.fields of p.0 ≡ Some (types_made parts)
+      filled : (of : Meaning) → IsRecordOf types owner see known result loose kinds of → (p : ℕ × List Value) (m : World)
+          (more : ℕ) (parts : Made) → p.1 ≡ values_of parts → types.fields of p.0 ≡ Some (types_made parts)
           → Gos own number (after_whole see loose scope e h) names (onto parts under) m
           → Good owner (Ending own number (number + length binds) names A R under)
           ((where_true (p.0 == 0) (binds_fields number binds (fields_noted see (note_of e)) p.1) >> pure falls) m more)
-      filled p m more parts are typed on =
-          let zero_is : p.0 ≡ 0 = only p.0 (types_made parts) typed in
+      filled of its p m more parts are typed on =
+          let zero_is : p.0 ≡ 0 = its.1 p.0 (types_made parts) typed in
           let kinds_are : types_made parts ≡ kinds =
           some_same (types_made parts) kinds
-          (sym typed ∙ (ap (λ (n : ℕ). types.fields of n) zero_is ∙ parted)) in
+          (sym typed ∙ (ap (λ (n : ℕ). types.fields of n) zero_is ∙ its.0)) in
           let r = λ (u : Unit {0}) (n : World). Gos own (number + length binds)
           (put_each number (length binds) forest.ready (after_whole see loose scope e h))
           (with_types number bound.bound names) under n in
@@ -157,19 +169,19 @@ module _ (types : Types) (owner : ClosedType → Option (List ℕ)) (laws : Step
             going = on2;
           })
 
-      opened : (v : Value) (n : World) (left : ℕ)
+      opened : (v : Value) (of : Meaning) → IsRecordOf types owner see known result loose kinds of → (n : World) (left : ℕ)
           → Gos own number (after_whole see loose scope e h) names ((v, of) ∷ under) n
           → Good owner (Ending own number (number + length binds) names A R under)
           (takes_apart see number binds (note_of e) v n left)
-      opened v n left on =
-          good_then owner (λ (p : ℕ × List Value) m. mid p m × (lying_in m ≡ lying_in n))
+      opened v of its n left on =
+          good_then owner (λ (p : ℕ × List Value) m. mid of p m × (lying_in m ≡ lying_in n))
           (Ending own number (number + length binds) names A R under) (apart v n left)
           (λ p. where_true (p.0 == 0) (binds_fields number binds (fields_noted see (note_of e)) p.1) >> pure falls)
-          (good_apart owner mid v n left
+          (good_apart owner (mid of) v n left
           (laws.apart (own ++ below) (frame (after_whole see loose scope e h) names ∷ fs) sizes under n left
-          laws.actions.typed v of 0 kinds parted on.state))
+          laws.actions.typed v of 0 kinds its.0 on.state))
           (λ p m more both.
-          filled p m more both.0.0 both.0.1 both.0.2
+          filled of its p m more both.0.0 both.0.1 both.0.2
           (goes_with types owner laws loose result below base fs sizes size running own number
           (after_whole see loose scope e h) names ((v, of) ∷ under) (onto both.0.0 under) n m both.1 both.0.3 on))
 

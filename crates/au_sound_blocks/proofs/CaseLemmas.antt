@@ -12,8 +12,8 @@ use Rattle.au_memory.specs.Forests as forest
 use Rattle.au_memory.specs.Forests.{Hold, Made, empty, shut}
 use Rattle.au_memory.specs.Loans.{Types}
 use Rattle.au_lending.specs.Records.{onto, types_made}
-use Rattle.au_borrows.specs.Orders.{Act, is_active}
-use Rattle.au_frames.specs.Frames.{Frame}
+use Rattle.au_sound_expressions.specs.Orders.{Act, is_active}
+use Rattle.au_sound_expressions.specs.Frames.{Frame}
 use Rattle.au_meaning.specs.Acts.{tells_apart}
 use Rattle.au_meaning.specs.Expressions.{whole}
 use Rattle.au_meaning.specs.Names.{Scope}
@@ -22,14 +22,14 @@ use Rattle.au_meaning.specs.Statements.{within}
 use Rattle.au_meaning.specs.Ticks.{Action, tick, ◌>>=◌, ◌>>◌}
 use Rattle.au_meaning.specs.Views.{Field, View}
 use Rattle.au_meaning.specs.Worlds.{Value, World}
-use Rattle.au_safe_acts.specs.Good.{Good, IsIn, IsRunning, lying_in}
-use Rattle.au_safe_acts.specs.Making.{values_of}
-use Rattle.au_safe_acts.proofs.GoodLemmas.{good_so, good_then}
-use Rattle.au_running_judgements.specs.Blocks.{AreBound, AreTold, IsWholeOf, Names, Told}
-use Rattle.au_running_judgements.specs.Blocks.{owned, through, to_read, to_write, with_types}
-use Rattle.au_running_judgements.specs.Known.{Callables}
-use Rattle.au_running_judgements.specs.Lives.{AreReady, IsOver, Standing, after_whole, put_each}
-use Rattle.au_running_judgements.specs.Uses.{uses}
+use Rattle.au_sound_expressions.specs.Good.{Good, IsIn, IsRunning, lying_in}
+use Rattle.au_sound_expressions.specs.Making.{values_of}
+use Rattle.au_sound_expressions.proofs.GoodLemmas.{good_so, good_then}
+use Rattle.au_sound_expressions.specs.Blocks.{AreBound, AreTold, IsWholeOf, Names, Told}
+use Rattle.au_sound_expressions.specs.Blocks.{owned, through, to_read, to_write, with_types}
+use Rattle.au_sound_expressions.specs.Known.{Callables}
+use Rattle.au_sound_expressions.specs.Lives.{AreReady, IsOver, Standing, after_whole, put_each}
+use Rattle.au_sound_expressions.specs.Uses.{uses}
 use Rattle.au_sound_expressions.specs.Safe.{AllWait, CallsSafe, frame}
 use Rattle.au_sound_blocks.specs.Steps.{StepsAreSafe}
 use Rattle.au_sound_blocks.proofs.AssignLemmas.{after_value}
@@ -37,7 +37,7 @@ use Rattle.au_sound_blocks.proofs.FormLemmas.{binds_good}
 use Rattle.au_sound_blocks.proofs.FrameLemmas.{types_before}
 use Rattle.au_sound_blocks.proofs.StateLemmas.{Ends, Goes, goes_with, good_stored}
 use Rattle.au_sound_blocks.proofs.StateLemmas.{within_safe}
-use Rattle.au_safe_acts.specs.Telling.{HasTold}
+use Rattle.au_sound_expressions.specs.Telling.{HasTold}
 use Rattle.au_sound_blocks.proofs.LoopLemmas.{ends_based}
 
 module _ (types : Types) (owner : ClosedType → Option (List ℕ)) (laws : StepsAreSafe types owner) (loose : ℕ → Bool)

@@ -13,8 +13,8 @@ use Rattle.au_memory.specs.Forests.{Hold, Made, empty, shut, watched}
 use Rattle.au_memory.specs.Loans.{Types}
 use Rattle.au_lending.specs.Ending.{freed, left_watched, others_of}
 use Rattle.au_lending.specs.Records.{onto, types_made}
-use Rattle.au_borrows.specs.Orders.{Act, is_active}
-use Rattle.au_frames.specs.Frames.{Frame}
+use Rattle.au_sound_expressions.specs.Orders.{Act, is_active}
+use Rattle.au_sound_expressions.specs.Frames.{Frame}
 use Rattle.au_meaning.specs.Acts.{apart, bound_counted, holds, with_value, with_values}
 use Rattle.au_meaning.specs.Expressions.{whole}
 use Rattle.au_meaning.specs.Names.{Scope}
@@ -22,14 +22,14 @@ use Rattle.au_meaning.specs.Statements.{Flow, binds_fields, falls}
 use Rattle.au_meaning.specs.Ticks.{Action, does, follows, pure, tick, ◌>>=◌, ◌>>◌}
 use Rattle.au_meaning.specs.Views.{Field, View}
 use Rattle.au_meaning.specs.Worlds.{Value, World}
-use Rattle.au_safe_acts.specs.Good.{Good, IsIn, IsRunning, lying_in}
-use Rattle.au_safe_acts.specs.Making.{values_of}
-use Rattle.au_safe_acts.proofs.GoodLemmas.{good_needing, good_then}
-use Rattle.au_safe_steps.specs.Binding.{AreUnder, bound_fields, field_names}
-use Rattle.au_running_judgements.specs.Blocks.{AreBound, AreFine, IsFine, IsWholeOf, MayDrop, Names, with_types}
-use Rattle.au_running_judgements.specs.Known.{Callables}
-use Rattle.au_running_judgements.specs.Lives.{Standing, Steps, after_whole, put, put_each}
-use Rattle.au_running_judgements.specs.Picking.{AreTypesUnder}
+use Rattle.au_sound_expressions.specs.Good.{Good, IsIn, IsRunning, lying_in}
+use Rattle.au_sound_expressions.specs.Making.{values_of}
+use Rattle.au_sound_expressions.proofs.GoodLemmas.{good_needing, good_then}
+use Rattle.au_sound_expressions.specs.Binding.{AreUnder, bound_fields, field_names}
+use Rattle.au_sound_expressions.specs.Blocks.{AreBound, AreFine, IsFine, IsWholeOf, MayDrop, Names, with_types}
+use Rattle.au_sound_expressions.specs.Known.{Callables}
+use Rattle.au_sound_expressions.specs.Lives.{Standing, Steps, after_whole, put, put_each}
+use Rattle.au_sound_expressions.specs.Picking.{AreTypesUnder}
 use Rattle.au_sound_expressions.specs.Safe.{AllWait, CallsSafe, Waits, frame}
 use Rattle.au_sound_expressions.proofs.PickLemmas.{length_types, types_under}
 use Rattle.au_sound_blocks.specs.Flows.{IsBottom}

@@ -7,9 +7,9 @@ use Rattle.au_types.specs.Types.{Meaning}
 use Rattle.au_memory.specs.Forests as forest
 use Rattle.au_memory.specs.Forests.{Hold, Made, empty, shut, watched}
 use Rattle.au_lending.specs.Records.{types_made}
-use Rattle.au_safe_steps.specs.Filling.{emptied_from, filled_from}
-use Rattle.au_running_judgements.specs.Blocks.{Names, with_types}
-use Rattle.au_running_judgements.specs.Lives.{Standing, put, put_each, spent}
+use Rattle.au_sound_expressions.specs.Filling.{emptied_from, filled_from}
+use Rattle.au_sound_expressions.specs.Blocks.{Names, with_types}
+use Rattle.au_sound_expressions.specs.Lives.{Standing, put, put_each, spent}
 use Rattle.au_sound_expressions.specs.Safe.{Waits, frame}
 
 pub put_own : {A : Type 0} (n : ℕ) (a : A) (all : ℕ → A) → put n a all n ≡ a

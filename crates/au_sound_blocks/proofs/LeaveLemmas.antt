@@ -14,8 +14,8 @@ use Rattle.au_syntax.specs.Plain.{Bytes}
 use Rattle.au_memory.specs.Forests.{Hold, Made, empty}
 use Rattle.au_memory.specs.Loans.{Types}
 use Rattle.au_lending.specs.Ending.{freed}
-use Rattle.au_borrows.specs.Orders.{Act, is_active}
-use Rattle.au_frames.specs.Frames.{Frame, IsDroppable}
+use Rattle.au_sound_expressions.specs.Orders.{Act, is_active}
+use Rattle.au_sound_expressions.specs.Frames.{Frame, IsDroppable}
 use Rattle.au_meaning.specs.Acts.{place_of, puts, reference_held, refers, sets}
 use Rattle.au_meaning.specs.Expressions.{eval, whole}
 use Rattle.au_meaning.specs.Names.{Scope}
@@ -24,14 +24,14 @@ use Rattle.au_meaning.specs.Ticks.{Action, Out, aborts, cut, follows, gives, nee
 use Rattle.au_meaning.specs.Ticks.{◌>>=◌}
 use Rattle.au_meaning.specs.Views.{View}
 use Rattle.au_meaning.specs.Worlds.{Value, World}
-use Rattle.au_safe_acts.specs.Good.{Good, IsIn, IsRunning, lying_in}
-use Rattle.au_safe_acts.proofs.GoodLemmas.{good_then}
-use Rattle.au_running_judgements.specs.Blocks.{IsWholeOf, MayDrop, Names}
-use Rattle.au_running_judgements.specs.Expressions.{IsOf}
-use Rattle.au_running_judgements.specs.Known.{Callables, with_token}
-use Rattle.au_running_judgements.specs.Lives.{IsOver, Standing, Steps, after_whole, freed_each, spent}
-use Rattle.au_running_judgements.specs.Lives.{stand}
-use Rattle.au_running_judgements.specs.Uses.{uses}
+use Rattle.au_sound_expressions.specs.Good.{Good, IsIn, IsRunning, lying_in}
+use Rattle.au_sound_expressions.proofs.GoodLemmas.{good_then}
+use Rattle.au_sound_expressions.specs.Blocks.{IsWholeOf, MayDrop, Names}
+use Rattle.au_sound_expressions.specs.Expressions.{IsOf}
+use Rattle.au_sound_expressions.specs.Known.{Callables, with_token}
+use Rattle.au_sound_expressions.specs.Lives.{IsOver, Standing, Steps, after_whole, freed_each, spent}
+use Rattle.au_sound_expressions.specs.Lives.{stand}
+use Rattle.au_sound_expressions.specs.Uses.{uses}
 use Rattle.au_sound_expressions.specs.Safe.{After, AllWait, CallsSafe, frame}
 use Rattle.au_sound_expressions.proofs.EvalLemmas.{eval_safe}
 use Rattle.au_sound_expressions.proofs.HoldLemmas.{plus_nothing}

@@ -13,8 +13,8 @@ use Rattle.au_memory.specs.Forests.{Hold, Made, empty, shut}
 use Rattle.au_memory.specs.Loans.{Types}
 use Rattle.au_lending.specs.Ending.{freed}
 use Rattle.au_lending.specs.Laws.{IsReadable}
-use Rattle.au_borrows.specs.Orders.{Act, is_active}
-use Rattle.au_frames.specs.Frames.{Frame}
+use Rattle.au_sound_expressions.specs.Orders.{Act, is_active}
+use Rattle.au_sound_expressions.specs.Frames.{Frame}
 use Rattle.au_meaning.specs.Acts.{closed_to, holds, lends}
 use Rattle.au_meaning.specs.Names.{Variable}
 use Rattle.au_meaning.specs.Statements as statement
@@ -23,14 +23,14 @@ use Rattle.au_meaning.specs.Statements.{means_case, ranges, returns, while_turns
 use Rattle.au_meaning.specs.Ticks.{Action, does, pure, tick, ◌>>=◌, ◌>>◌}
 use Rattle.au_meaning.specs.Views.{View}
 use Rattle.au_meaning.specs.Worlds.{Value, World}
-use Rattle.au_safe_acts.specs.Good.{Good, IsIn, IsRunning, lying_in}
-use Rattle.au_safe_acts.proofs.GoodLemmas.{good_then}
-use Rattle.au_running_judgements.specs.Blocks.{IsFine, MayDrop, Names}
-use Rattle.au_running_judgements.specs.Expressions.{Borrows}
-use Rattle.au_running_judgements.specs.Known.{Callables, InScope}
-use Rattle.au_running_judgements.specs.Lives.{AreReady, Standing, lending, lent_for, put}
-use Rattle.au_running_judgements.specs.Lives.{stand}
-use Rattle.au_running_judgements.specs.Uses.{where_of}
+use Rattle.au_sound_expressions.specs.Good.{Good, IsIn, IsRunning, lying_in}
+use Rattle.au_sound_expressions.proofs.GoodLemmas.{good_then}
+use Rattle.au_sound_expressions.specs.Blocks.{IsFine, MayDrop, Names}
+use Rattle.au_sound_expressions.specs.Expressions.{Borrows}
+use Rattle.au_sound_expressions.specs.Known.{Callables, InScope}
+use Rattle.au_sound_expressions.specs.Lives.{AreReady, Standing, lending, lent_for, put}
+use Rattle.au_sound_expressions.specs.Lives.{stand}
+use Rattle.au_sound_expressions.specs.Uses.{where_of}
 use Rattle.au_sound_expressions.specs.Safe.{AllWait, CallsSafe, Waits, frame}
 use Rattle.au_sound_expressions.proofs.HoldLemmas.{is_readable, is_ready, waits_watched}
 use Rattle.au_sound_expressions.proofs.LeafLemmas.{own_active}

@@ -1,3 +1,7 @@
+pub use Rattle.au_sound_expressions.proofs.LeafLemmas
+pub use Rattle.au_sound_expressions.proofs.PickLemmas
+pub use Rattle.au_sound_expressions.proofs.WaitLemmas
+pub use Rattle.au_sound_expressions.proofs.WholeLemmas
 pub mod FrameLemmas
 pub mod StateLemmas
 pub mod FormLemmas

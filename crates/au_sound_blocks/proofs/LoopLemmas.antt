@@ -14,8 +14,8 @@ use Rattle.au_syntax.specs.Plain.{Bytes}
 use Rattle.au_memory.specs.Forests.{Made}
 use Rattle.au_memory.specs.Loans.{Types}
 use Rattle.au_memory.specs.Shown.{IsPlain}
-use Rattle.au_borrows.specs.Orders.{Act, is_active}
-use Rattle.au_frames.specs.Frames.{Frame}
+use Rattle.au_sound_expressions.specs.Orders.{Act, is_active}
+use Rattle.au_sound_expressions.specs.Frames.{Frame}
 use Rattle.au_meaning.specs.Acts.{closed_to}
 use Rattle.au_meaning.specs.Expressions.{chosen, whole}
 use Rattle.au_meaning.specs.Names.{Scope}
@@ -25,12 +25,12 @@ use Rattle.au_meaning.specs.Statements.{means_case, ranges, returns, while_turns
 use Rattle.au_meaning.specs.Ticks.{Action, does, follows, pure, tick, ◌>>=◌, ◌>>◌}
 use Rattle.au_meaning.specs.Views.{View}
 use Rattle.au_meaning.specs.Worlds.{Value, World}
-use Rattle.au_safe_acts.specs.Good.{Good, IsRunning}
-use Rattle.au_safe_acts.proofs.GoodLemmas.{good_then}
-use Rattle.au_running_judgements.specs.Blocks.{IsWholeOf, Names}
-use Rattle.au_running_judgements.specs.Known.{Callables}
-use Rattle.au_running_judgements.specs.Lives.{AreReady, Standing, after_whole}
-use Rattle.au_running_judgements.specs.Uses.{IsKept, uses}
+use Rattle.au_sound_expressions.specs.Good.{Good, IsRunning}
+use Rattle.au_sound_expressions.proofs.GoodLemmas.{good_then}
+use Rattle.au_sound_expressions.specs.Blocks.{IsWholeOf, Names}
+use Rattle.au_sound_expressions.specs.Known.{Callables}
+use Rattle.au_sound_expressions.specs.Lives.{AreReady, Standing, after_whole}
+use Rattle.au_sound_expressions.specs.Uses.{IsKept, uses}
 use Rattle.au_sound_expressions.specs.Safe.{AllWait, CallsSafe, frame}
 use Rattle.au_sound_expressions.proofs.HoldLemmas.{spent_none}
 use Rattle.au_sound_expressions.proofs.JoinLemmas.{truth_is}

@@ -17,8 +17,8 @@ use Rattle.au_memory.specs.Loans.{Types}
 use Rattle.au_memory.specs.Shown.{IsPlain}
 use Rattle.au_lending.specs.Ending.{freed}
 use Rattle.au_lending.specs.Records.{onto, types_made}
-use Rattle.au_borrows.specs.Orders.{Act, is_active}
-use Rattle.au_frames.specs.Frames.{Frame}
+use Rattle.au_sound_expressions.specs.Orders.{Act, is_active}
+use Rattle.au_sound_expressions.specs.Frames.{Frame}
 use Rattle.au_meaning.specs.Acts.{holds, with_value}
 use Rattle.au_meaning.specs.Expressions.{names_of, note_of}
 use Rattle.au_meaning.specs.Names.{Scope, Variable, mode_of, names_in, names_in_arms, names_in_block, names_in_tests}
@@ -29,14 +29,14 @@ use Rattle.au_meaning.specs.Statements as statement
 use Rattle.au_meaning.specs.Ticks.{Action, pure, ◌>>◌}
 use Rattle.au_meaning.specs.Views.{View}
 use Rattle.au_meaning.specs.Worlds.{Value, World}
-use Rattle.au_safe_acts.specs.Good.{Good, IsRunning}
-use Rattle.au_safe_acts.specs.Making.{values_of}
-use Rattle.au_safe_acts.proofs.GoodLemmas.{good_so}
-use Rattle.au_running_judgements.specs.Blocks.{Either, IsFine, Lends, Names, Runs, RunsAll, RunsArms, RunsTests, through}
-use Rattle.au_running_judgements.specs.Blocks.{with_types}
-use Rattle.au_running_judgements.specs.Known.{Callables}
-use Rattle.au_running_judgements.specs.Lives.{Ahead, AheadAll, AheadArms, AheadTests, Opens, Over, Standing}
-use Rattle.au_running_judgements.specs.Lives.{after_whole, lending, put, put_each}
+use Rattle.au_sound_expressions.specs.Good.{Good, IsRunning}
+use Rattle.au_sound_expressions.specs.Making.{values_of}
+use Rattle.au_sound_expressions.proofs.GoodLemmas.{good_so}
+use Rattle.au_sound_expressions.specs.Blocks.{Either, IsFine, Lends, Names, Runs, RunsAll, RunsArms, RunsTests, through}
+use Rattle.au_sound_expressions.specs.Blocks.{with_types}
+use Rattle.au_sound_expressions.specs.Known.{Callables}
+use Rattle.au_sound_expressions.specs.Lives.{Ahead, AheadAll, AheadArms, AheadTests, Opens, Over, Standing}
+use Rattle.au_sound_expressions.specs.Lives.{after_whole, lending, put, put_each}
 use Rattle.au_sound_expressions.specs.Safe.{AllWait, CallsSafe, frame}
 use Rattle.au_sound_blocks.specs.Flows.{tokens}
 use Rattle.au_sound_blocks.specs.Steps.{StepsAreSafe}
@@ -212,8 +212,7 @@ module _ (types : Types) (owner : ClosedType → Option (List ℕ)) (laws : Step
         scope e runs.0 own A R h names under w ticks runs.1 runs.2 runs.3 ahead room going
     run_safe (destructure at binds e) number scope own A R h names under w ticks ahead runs room going =
         destructure_safe types owner laws loose result below base fs sizes size running see known invoke calls_safe waiting
-        number scope e binds own A R h names under w ticks runs.0 runs.1 runs.2 runs.3 runs.4 runs.5 runs.6 runs.7.0 runs.7.1
-        ahead room going
+        number scope e binds own A R h names under w ticks runs.0 runs.1 runs.3 runs.2 runs.4.0 runs.4.1 ahead room going
     run_safe (assign at x fields e) number scope own A R h names under w ticks ahead runs room going =
         weaker own number number number (number + 0) names A R under
         (run see invoke depth number scope (assign at x fields e)) w ticks (omega arith) (omega arith)

@@ -10,8 +10,8 @@ use Rattle.au_memory.specs.Forests as forest
 use Rattle.au_memory.specs.Forests.{Hold, Made, empty}
 use Rattle.au_memory.specs.Loans.{Types}
 use Rattle.au_lending.specs.Laws.{IsReadable}
-use Rattle.au_borrows.specs.Orders.{Act, is_active}
-use Rattle.au_frames.specs.Frames.{Frame, IsDroppable, IsLoose}
+use Rattle.au_sound_expressions.specs.Orders.{Act, is_active}
+use Rattle.au_sound_expressions.specs.Frames.{Frame, IsDroppable, IsLoose}
 use Rattle.au_meaning.specs.Acts.{emptied, stored, with_value}
 use Rattle.au_meaning.specs.Expressions.{whole}
 use Rattle.au_meaning.specs.Names.{Scope}
@@ -20,13 +20,13 @@ use Rattle.au_meaning.specs.Ticks.{Action, does, follows, found_in, pure, tick}
 use Rattle.au_meaning.specs.Ticks.{◌>>=◌, ◌>>◌}
 use Rattle.au_meaning.specs.Views.{View}
 use Rattle.au_meaning.specs.Worlds.{Store, Value, World}
-use Rattle.au_safe_acts.specs.Good.{Good, IsIn, IsRunning, lying_in}
-use Rattle.au_safe_acts.proofs.GoodLemmas.{good_so, good_then, good_tick}
-use Rattle.au_running_judgements.specs.Blocks.{IsWholeOf, MayDrop, Names}
-use Rattle.au_running_judgements.specs.Expressions.{IsOf}
-use Rattle.au_running_judgements.specs.Known.{Callables, with_token}
-use Rattle.au_running_judgements.specs.Lives.{AreReady, IsOver, Standing, after_whole, put_each, spent}
-use Rattle.au_running_judgements.specs.Uses.{uses}
+use Rattle.au_sound_expressions.specs.Good.{Good, IsIn, IsRunning, lying_in}
+use Rattle.au_sound_expressions.proofs.GoodLemmas.{good_so, good_then, good_tick}
+use Rattle.au_sound_expressions.specs.Blocks.{IsWholeOf, MayDrop, Names}
+use Rattle.au_sound_expressions.specs.Expressions.{IsOf}
+use Rattle.au_sound_expressions.specs.Known.{Callables, with_token}
+use Rattle.au_sound_expressions.specs.Lives.{AreReady, IsOver, Standing, after_whole, put_each, spent}
+use Rattle.au_sound_expressions.specs.Uses.{uses}
 use Rattle.au_sound_expressions.specs.Safe.{AllWait, CallsSafe, Waits, frame}
 use Rattle.au_sound_expressions.proofs.WaitLemmas.{all_more}
 use Rattle.au_sound_expressions.proofs.WholeLemmas.{Gave, whole_safe}

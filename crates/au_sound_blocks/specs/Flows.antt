@@ -4,13 +4,13 @@ use Rattle.au_type_texts.specs.Types.{ClosedType}
 use Rattle.au_types.specs.Types.{Meaning}
 use Rattle.au_memory.specs.Forests.{Made, empty}
 use Rattle.au_memory.specs.Loans.{Types}
-use Rattle.au_borrows.specs.Orders.{Act, is_active}
-use Rattle.au_frames.specs.Frames.{Frame}
+use Rattle.au_sound_expressions.specs.Orders.{Act, is_active}
+use Rattle.au_sound_expressions.specs.Frames.{Frame}
 use Rattle.au_meaning.specs.Statements.{Flow, falls, returns}
 use Rattle.au_meaning.specs.Worlds.{Value, World}
-use Rattle.au_safe_acts.specs.Good.{IsIn, lying_in}
-use Rattle.au_running_judgements.specs.Blocks.{MayDrop, Names}
-use Rattle.au_running_judgements.specs.Lives.{IsOver, Standing, freed_each}
+use Rattle.au_sound_expressions.specs.Good.{IsIn, lying_in}
+use Rattle.au_sound_expressions.specs.Blocks.{MayDrop, Names}
+use Rattle.au_sound_expressions.specs.Lives.{IsOver, Standing, freed_each}
 use Rattle.au_sound_expressions.specs.Safe.{Waits, frame}
 
 -- the tokens of a frame's own

@@ -6,17 +6,17 @@ use Rattle.au_syntax.specs.Plain.{Bytes}
 use Rattle.au_syntax.specs.Statements.{Statements}
 use Rattle.au_memory.specs.Forests.{Made}
 use Rattle.au_memory.specs.Loans.{Types}
-use Rattle.au_borrows.specs.Orders.{Act, is_active}
-use Rattle.au_frames.specs.Frames.{Frame}
+use Rattle.au_sound_expressions.specs.Orders.{Act, is_active}
+use Rattle.au_sound_expressions.specs.Frames.{Frame}
 use Rattle.au_meaning.specs.Names.{Scope, names_in_block}
 use Rattle.au_meaning.specs.Statements.{run_all}
 use Rattle.au_meaning.specs.Ticks.{Action}
 use Rattle.au_meaning.specs.Views.{View}
 use Rattle.au_meaning.specs.Worlds.{Value, World}
-use Rattle.au_safe_acts.specs.Good.{Good, IsRunning}
-use Rattle.au_running_judgements.specs.Blocks.{Names, RunsAll}
-use Rattle.au_running_judgements.specs.Known.{Callables}
-use Rattle.au_running_judgements.specs.Lives.{AheadAll, Standing}
+use Rattle.au_sound_expressions.specs.Good.{Good, IsRunning}
+use Rattle.au_sound_expressions.specs.Blocks.{Names, RunsAll}
+use Rattle.au_sound_expressions.specs.Known.{Callables}
+use Rattle.au_sound_expressions.specs.Lives.{AheadAll, Standing}
 use Rattle.au_sound_expressions.specs.Safe.{AllWait, CallsSafe}
 use Rattle.au_sound_blocks.specs.Flows.{Flows, Going, tokens}
 use Rattle.au_sound_blocks.specs.Steps.{StepsAreSafe}

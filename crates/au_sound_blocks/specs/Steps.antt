@@ -3,19 +3,19 @@ use Rattle.std.specs.Prelude.{◌≡◌, ◌⊎◌, ℕ, List, ◌∷◌, Option
 use Rattle.au_type_texts.specs.Types.{ClosedType}
 use Rattle.au_memory.specs.Forests.{Made, empty}
 use Rattle.au_memory.specs.Loans.{Types}
-use Rattle.au_borrows.specs.Orders.{Act}
-use Rattle.au_frames.specs.Frames.{Frame}
+use Rattle.au_sound_expressions.specs.Orders.{Act}
+use Rattle.au_sound_expressions.specs.Frames.{Frame}
 use Rattle.au_meaning.specs.Worlds.{World}
-use Rattle.au_safe_acts.specs.Behind.{WritersPutWell}
-use Rattle.au_safe_acts.specs.Good.{IsIn}
-use Rattle.au_safe_acts.specs.Making.{ApartWell}
-use Rattle.au_safe_acts.specs.Naming.{HoldsWell, SetsWell}
-use Rattle.au_safe_acts.specs.Telling.{TellsReadersWell, TellsValuesWell, TellsWritersWell}
-use Rattle.au_safe_steps.specs.Binding.{FieldsAreBound}
-use Rattle.au_safe_steps.specs.Coming.{DropsWell, NumbersAreTold, NumbersGoOn}
-use Rattle.au_safe_steps.specs.Filling.{EmptiesWell, FillsWell}
-use Rattle.au_running_judgements.specs.Blocks.{Names}
-use Rattle.au_running_judgements.specs.Lives.{Standing}
+use Rattle.au_sound_expressions.specs.Behind.{WritersPutWell}
+use Rattle.au_sound_expressions.specs.Good.{IsIn}
+use Rattle.au_sound_expressions.specs.Making.{ApartWell}
+use Rattle.au_sound_expressions.specs.Naming.{HoldsWell, SetsWell}
+use Rattle.au_sound_expressions.specs.Telling.{TellsReadersWell, TellsValuesWell, TellsWritersWell}
+use Rattle.au_sound_expressions.specs.Binding.{FieldsAreBound}
+use Rattle.au_sound_expressions.specs.Coming.{DropsWell, NumbersAreTold, NumbersGoOn}
+use Rattle.au_sound_expressions.specs.Filling.{EmptiesWell, FillsWell}
+use Rattle.au_sound_expressions.specs.Blocks.{Names}
+use Rattle.au_sound_expressions.specs.Lives.{Standing}
 use Rattle.au_sound_expressions.specs.Actions.{ActionsAreSafe}
 use Rattle.au_sound_expressions.specs.Safe.{frame}
 

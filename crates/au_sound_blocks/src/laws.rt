@@ -6,7 +6,7 @@ ghost use Rattle.au_memory.specs.Loans.{Types};
 ghost use Rattle.au_meaning.specs.Ticks.{Action};
 ghost use Rattle.au_meaning.specs.Views.{View};
 ghost use Rattle.au_meaning.specs.Worlds.{Value};
-ghost use Rattle.au_running_judgements.specs.Known.{Callables};
+ghost use Rattle.au_sound_expressions.specs.Known.{Callables};
 ghost use Rattle.au_sound_blocks.specs.Laws.{BodiesAreSafe};
 
 /// Bodies that return on each way are safe where actions and calls are.

@@ -18,7 +18,7 @@ use Rattle.au_lending.specs.Laws.{IsReadable, also_watched}
 use Rattle.au_lending.specs.Records.{onto, types_made}
 use Rattle.au_lending.specs.Seeing.{LeadsOn}
 use Rattle.au_borrows.specs.Orders.{Act, is_active}
-use Rattle.au_frames.specs.Frames.{Frame}
+use Rattle.au_running_judgements.specs.Frames.{Frame}
 use Rattle.au_meaning.specs.Acts as meaning
 use Rattle.au_meaning.specs.Acts.{by_position, lends, looks, makes_value, refers}
 use Rattle.au_meaning.specs.Expressions as evaluator
@@ -28,9 +28,9 @@ use Rattle.au_meaning.specs.Ticks.{Action, follows, needing, pure, tick, â—Œ>>=â
 use Rattle.au_meaning.specs.Views as views
 use Rattle.au_meaning.specs.Views.{Callee, View, invokes, makes, ships}
 use Rattle.au_meaning.specs.Worlds.{Value, World}
-use Rattle.au_safe_acts.specs.Good.{Good, IsRunning, lying_in}
-use Rattle.au_safe_acts.specs.Making.{values_of}
-use Rattle.au_safe_acts.proofs.GoodLemmas.{good_needing, good_so, good_then}
+use Rattle.au_running_judgements.specs.Good.{Good, IsRunning, lying_in}
+use Rattle.au_running_judgements.specs.Making.{values_of}
+use Rattle.au_running_judgements.proofs.GoodLemmas.{good_needing, good_so, good_then}
 use Rattle.au_running_judgements.specs.Expressions.{Bears, Borrows, IsNamed, LooksInto, Mentions, Performs, Reaches}
 use Rattle.au_running_judgements.specs.Expressions.{Refers}
 use Rattle.au_running_judgements.specs.Known.{Callables, InScope, IsReference}

@@ -17,7 +17,7 @@ use Rattle.au_memory.specs.Loans.{Types}
 use Rattle.au_memory.specs.Shown.{IsPlain}
 use Rattle.au_lending.specs.Records.{onto, types_made}
 use Rattle.au_borrows.specs.Orders.{Act, is_active}
-use Rattle.au_frames.specs.Frames.{Frame}
+use Rattle.au_running_judgements.specs.Frames.{Frame}
 use Rattle.au_meaning.specs.Acts.{by_labels, by_position}
 use Rattle.au_meaning.specs.Expressions.{alone, calls, eval, eval_all, eval_named, kind_in, labelled, labels}
 use Rattle.au_meaning.specs.Expressions.{names_of, note_of, operation_of}
@@ -25,10 +25,10 @@ use Rattle.au_meaning.specs.Names.{Scope, variable_of}
 use Rattle.au_meaning.specs.Ticks.{Action, pure, tick, ◌>>=◌}
 use Rattle.au_meaning.specs.Views.{Callee, View}
 use Rattle.au_meaning.specs.Worlds.{Value, World}
-use Rattle.au_safe_acts.specs.Good.{Good, IsRunning}
-use Rattle.au_safe_acts.specs.Making.{values_of}
-use Rattle.au_safe_acts.proofs.GoodLemmas.{good_so, good_then}
-use Rattle.au_safe_steps.specs.Orders.{AreApart, IsReordered}
+use Rattle.au_running_judgements.specs.Good.{Good, IsRunning}
+use Rattle.au_running_judgements.specs.Making.{values_of}
+use Rattle.au_running_judgements.proofs.GoodLemmas.{good_so, good_then}
+use Rattle.au_running_judgements.specs.Orders.{AreApart, IsReordered}
 use Rattle.au_running_judgements.specs.Expressions.{AreOf, IsOf, NamedAreOf, Performs}
 use Rattle.au_running_judgements.specs.Known.{Callables}
 use Rattle.au_running_judgements.specs.Lives.{AreReady, Standing}

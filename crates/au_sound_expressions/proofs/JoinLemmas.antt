@@ -12,12 +12,12 @@ use Rattle.au_memory.specs.Loans.{Types}
 use Rattle.au_memory.specs.Shown.{IsPlain}
 use Rattle.au_lending.specs.Ending.{freed}
 use Rattle.au_borrows.specs.Orders.{Act, is_active}
-use Rattle.au_frames.specs.Frames.{Frame}
+use Rattle.au_running_judgements.specs.Frames.{Frame}
 use Rattle.au_meaning.specs.Expressions.{chosen}
 use Rattle.au_meaning.specs.Ticks.{Action, comes, follows, tick, ◌>>=◌}
 use Rattle.au_meaning.specs.Worlds.{Value, World}
-use Rattle.au_safe_acts.specs.Good.{Good, IsRunning}
-use Rattle.au_safe_acts.proofs.GoodLemmas.{good_so, good_then}
+use Rattle.au_running_judgements.specs.Good.{Good, IsRunning}
+use Rattle.au_running_judgements.proofs.GoodLemmas.{good_so, good_then}
 use Rattle.au_running_judgements.specs.Lives.{AreReady, Standing, spent}
 use Rattle.au_sound_expressions.specs.Actions.{ActionsAreSafe}
 use Rattle.au_sound_expressions.specs.Safe.{Waits, frame}

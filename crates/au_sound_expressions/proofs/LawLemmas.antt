@@ -7,8 +7,8 @@ use Rattle.au_meaning.specs.Expressions.{whole}
 use Rattle.au_meaning.specs.Ticks.{Action}
 use Rattle.au_meaning.specs.Views.{View}
 use Rattle.au_meaning.specs.Worlds.{Value}
-use Rattle.au_safe_acts.specs.Good.{IsIn, lying_in}
-use Rattle.au_safe_acts.proofs.GoodLemmas.{good_so}
+use Rattle.au_running_judgements.specs.Good.{IsIn, lying_in}
+use Rattle.au_running_judgements.proofs.GoodLemmas.{good_so}
 use Rattle.au_running_judgements.specs.Known.{Callables}
 use Rattle.au_running_judgements.specs.Lives.{spent}
 use Rattle.au_running_judgements.specs.Uses.{uses}

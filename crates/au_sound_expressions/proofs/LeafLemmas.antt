@@ -19,15 +19,15 @@ use Rattle.au_lending.specs.Laws.{IsReadable, also_watched}
 use Rattle.au_lending.specs.Records.{types_made}
 use Rattle.au_lending.specs.Seeing.{LeadsOn}
 use Rattle.au_borrows.specs.Orders.{Act, is_active}
-use Rattle.au_frames.specs.Frames.{Frame}
+use Rattle.au_running_judgements.specs.Frames.{Frame}
 use Rattle.au_meaning.specs.Acts.{looks, moves}
 use Rattle.au_meaning.specs.Expressions.{copies, literal}
 use Rattle.au_meaning.specs.Names.{Variable}
 use Rattle.au_meaning.specs.Ticks.{Action, Out, pure, tick, where_true}
 use Rattle.au_meaning.specs.Worlds.{Value, World}
-use Rattle.au_safe_acts.specs.Good.{Good, IsIn, IsRunning}
-use Rattle.au_safe_acts.specs.Making.{values_of}
-use Rattle.au_safe_acts.proofs.GoodLemmas.{good_needing, good_so, good_tick}
+use Rattle.au_running_judgements.specs.Good.{Good, IsIn, IsRunning}
+use Rattle.au_running_judgements.specs.Making.{values_of}
+use Rattle.au_running_judgements.proofs.GoodLemmas.{good_needing, good_so, good_tick}
 use Rattle.au_running_judgements.specs.Lives.{AreReady, Standing, spent, stand}
 use Rattle.au_running_judgements.specs.Uses.{mentioned, where_of}
 use Rattle.au_sound_expressions.specs.Actions.{ActionsAreSafe}

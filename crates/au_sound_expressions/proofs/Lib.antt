@@ -1,3 +1,4 @@
+pub use Rattle.au_running_judgements.proofs.GoodLemmas
 pub mod HoldLemmas
 pub mod WaitLemmas
 pub mod LeafLemmas

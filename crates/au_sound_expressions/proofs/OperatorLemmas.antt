@@ -14,14 +14,14 @@ use Rattle.au_memory.specs.Loans.{Types}
 use Rattle.au_memory.specs.Shown.{IsPlain}
 use Rattle.au_lending.specs.Ending.{freed}
 use Rattle.au_borrows.specs.Orders.{Act}
-use Rattle.au_frames.specs.Frames.{Frame}
+use Rattle.au_running_judgements.specs.Frames.{Frame}
 use Rattle.au_meaning.specs.Expressions.{Operation, chosen, compared_kind, compares, computes, is_and, is_or, joins}
 use Rattle.au_meaning.specs.Expressions.{kind_in, operates}
 use Rattle.au_meaning.specs.Ticks.{Action, comes, follows, pure, tick, ◌>>=◌}
 use Rattle.au_meaning.specs.Views.{View}
 use Rattle.au_meaning.specs.Worlds.{Value, World}
-use Rattle.au_safe_acts.specs.Good.{Good, IsRunning}
-use Rattle.au_safe_acts.proofs.GoodLemmas.{good_needing, good_so}
+use Rattle.au_running_judgements.specs.Good.{Good, IsRunning}
+use Rattle.au_running_judgements.proofs.GoodLemmas.{good_needing, good_so}
 use Rattle.au_running_judgements.specs.Expressions.{IsEquality, Joins}
 use Rattle.au_running_judgements.specs.Known.{Callables}
 use Rattle.au_running_judgements.specs.Lives.{Standing, spent, stand}

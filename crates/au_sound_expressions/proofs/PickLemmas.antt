@@ -5,7 +5,7 @@ use Rattle.au_syntax.specs.Plain.{Bytes}
 use Rattle.au_memory.specs.Forests.{Made}
 use Rattle.au_lending.specs.Records.{types_made}
 use Rattle.au_meaning.specs.Worlds.{Value}
-use Rattle.au_safe_steps.specs.Binding.{AreUnder, IsUnder}
+use Rattle.au_running_judgements.specs.Binding.{AreUnder, IsUnder}
 use Rattle.au_running_judgements.specs.Picking.{AreTypesUnder, IsTypeUnder}
 
 pub length_types : (made : Made) → length made ≡ length (types_made made)

@@ -7,8 +7,8 @@ use Rattle.au_memory.specs.Forests as forest
 use Rattle.au_memory.specs.Forests.{Hold, empty, shut, watched}
 use Rattle.au_lending.specs.Ending.{freed, left_watched, others_of}
 use Rattle.au_borrows.specs.Orders.{Act, is_active}
-use Rattle.au_frames.specs.Frames.{Frame}
-use Rattle.au_safe_acts.specs.Closing.{freed_frame, freed_frames}
+use Rattle.au_running_judgements.specs.Frames.{Frame}
+use Rattle.au_running_judgements.specs.Closing.{freed_frame, freed_frames}
 use Rattle.au_running_judgements.specs.Known.{AreActive}
 use Rattle.au_sound_expressions.specs.Safe.{AllWait, Waits}
 

@@ -18,21 +18,21 @@ use Rattle.au_lending.specs.Laws.{IsReadable}
 use Rattle.au_lending.specs.Records.{onto, types_made}
 use Rattle.au_lending.specs.Seeing.{LeadsOn}
 use Rattle.au_borrows.specs.Orders.{Act, is_active}
-use Rattle.au_frames.specs.Frames.{Frame}
+use Rattle.au_running_judgements.specs.Frames.{Frame}
 use Rattle.au_meaning.specs.Acts as meaning
 use Rattle.au_meaning.specs.Acts.{looks, refers, ships_call}
 use Rattle.au_meaning.specs.Ticks.{comes, follows, needing, pure}
 use Rattle.au_meaning.specs.Worlds.{Value, World}
-use Rattle.au_sound_calls.specs.Sound.{AreTyped}
-use Rattle.au_safe_acts.specs.Behind.{ReadersReadWell, WritersReadWell}
-use Rattle.au_safe_acts.specs.Good.{Good, IsIn, IsOrderly, IsRunning}
-use Rattle.au_safe_acts.specs.Lending.{LendsWell, ReadsWell, RelendsWell}
-use Rattle.au_safe_acts.specs.Making.{CopiesWell, MakesFreeWell, MakesLinearWell, values_of}
-use Rattle.au_safe_acts.specs.Naming.{LooksWell, MovesWell}
-use Rattle.au_safe_acts.specs.Closing.{TokensBegin, TokensEnd}
-use Rattle.au_safe_steps.specs.Beginning.{CountsLying}
-use Rattle.au_safe_steps.specs.Binding.{LabelsAreOrdered}
-use Rattle.au_safe_steps.specs.Coming.{ReordersWell}
+use Rattle.au_running_judgements.specs.Sound.{AreTyped}
+use Rattle.au_running_judgements.specs.Behind.{ReadersReadWell, WritersReadWell}
+use Rattle.au_running_judgements.specs.Good.{Good, IsIn, IsOrderly, IsRunning}
+use Rattle.au_running_judgements.specs.Lending.{LendsWell, ReadsWell, RelendsWell}
+use Rattle.au_running_judgements.specs.Making.{CopiesWell, MakesFreeWell, MakesLinearWell, values_of}
+use Rattle.au_running_judgements.specs.Naming.{LooksWell, MovesWell}
+use Rattle.au_running_judgements.specs.Closing.{TokensBegin, TokensEnd}
+use Rattle.au_running_judgements.specs.Beginning.{CountsLying}
+use Rattle.au_running_judgements.specs.Binding.{LabelsAreOrdered}
+use Rattle.au_running_judgements.specs.Coming.{ReordersWell}
 use Rattle.au_running_judgements.specs.Expressions.{IsEquality}
 use Rattle.au_running_judgements.specs.Shipping.{Ships}
 
@@ -114,11 +114,12 @@ module _ (types : Types) (owner : ClosedType → Option (List ℕ)) (acts : List
     -- No name holds a reference of the region `Static`.
     abbrev pub NoNamedStatics : Type 0
     NoNamedStatics =
-        (x : ℕ) (of : Meaning) → IsReadable (f.hold x) → (f.type x ≡ writes of Static) ⊎ (f.type x ≡ reads of Static)
+        (x : ℕ) (of : Meaning) → IsReadable (f.hold x)
+        → (f.type x ≡ writes of Static) ⊎ (f.type x ≡ reads of Static)
         → IsIn types owner acts (f ∷ fs) sizes under w → ⊥
 
     module _ (ticks : ℕ) where
-      -- `!x`, where the name holds a write reference: it is looked at, and then what stands behind it is copied.
+      -- `!x`, where the name holds a write reference: it is looked at, then what stands behind it is copied.
       abbrev pub WritersLookWell : Type 0
       WritersLookWell =
           IsRunning sizes fs size → (x : ℕ) (t : Meaning) (z : ℕ) → IsReadable (f.hold x)
@@ -126,7 +127,8 @@ module _ (types : Types) (owner : ClosedType → Option (List ℕ)) (acts : List
           → IsIn types owner acts (f ∷ fs) sizes under w
           → Good owner
           (λ (r : Value) n. IsIn types owner acts (f ∷ fs) sizes under n
-          × ((left : ℕ) → Good owner (λ (v : Value) m. IsIn types owner acts (f ∷ fs) sizes ((v, t) ∷ under) m)
+          × ((left : ℕ)
+          → Good owner (λ (v : Value) m. IsIn types owner acts (f ∷ fs) sizes ((v, t) ∷ under) m)
           (needing (reference_in r) meaning.reads n left))) (looks x [] w ticks)
 
       -- `&(r->f)`, where the name holds a read reference
@@ -135,7 +137,8 @@ module _ (types : Types) (owner : ClosedType → Option (List ℕ)) (acts : List
           IsRunning sizes fs size → (x : ℕ) (path : List ℕ) (t u : Meaning) (z : ℕ) → IsReadable (f.hold x)
           → f.type x ≡ reads t (token z) → types.is_free (reads t (token z)) ≡ true → is_active acts z ≡ true
           → LeadsOn types t path u → IsIn types owner acts (f ∷ fs) sizes under w
-          → Good owner (λ (v : Value) n. IsIn types owner acts (f ∷ fs) sizes ((v, reads u (token z)) ∷ under) n)
+          → Good owner
+          (λ (v : Value) n. IsIn types owner acts (f ∷ fs) sizes ((v, reads u (token z)) ∷ under) n)
           (follows (refers x path w ticks) (λ one. pure (referring one)))
 
 -- Each action is safe.
@@ -160,8 +163,8 @@ pub record ActionsAreSafe (types : Types) (owner : ClosedType → Option (List �
       → ReordersWell types owner acts fs sizes under w
   pub copied : (acts : List Act) (fs : List Frame) (sizes : List ℕ) (under : Made) (w : World) (ticks : ℕ)
       → CopiesWell types owner acts fs sizes under w ticks
-  pub writers_copied : (acts : List Act) (fs : List Frame) (sizes : List ℕ) (under : Made) (w : World) (ticks : ℕ)
-      → WritersCopyWell types owner acts fs sizes under w ticks
+  pub writers_copied : (acts : List Act) (fs : List Frame) (sizes : List ℕ) (under : Made)
+      (w : World) (ticks : ℕ) → WritersCopyWell types owner acts fs sizes under w ticks
   pub computed : (acts : List Act) (fs : List Frame) (sizes : List ℕ) (under : Made) (w : World) (ticks : ℕ)
       → ComputesWell types owner acts fs sizes under w ticks
   pub compared : (acts : List Act) (fs : List Frame) (sizes : List ℕ) (under : Made) (w : World) (ticks : ℕ)
@@ -174,25 +177,25 @@ pub record ActionsAreSafe (types : Types) (owner : ClosedType → Option (List �
       → ShipsWell types owner acts fs sizes under w ticks
   pub made_free : (acts : List Act) (fs : List Frame) (sizes : List ℕ) (under : Made) (w : World) (ticks : ℕ)
       → MakesFreeWell types owner acts fs sizes under w ticks
-  pub made_linear : (acts : List Act) (fs : List Frame) (sizes : List ℕ) (under : Made) (w : World) (ticks : ℕ)
-      → MakesLinearWell types owner acts fs sizes under w ticks
-  pub looked : (acts : List Act) (f : Frame) (fs : List Frame) (sizes : List ℕ) (size : ℕ) (under : Made) (w : World)
-      (ticks : ℕ) → LooksWell types owner acts f fs sizes size under w ticks
-  pub moved : (acts : List Act) (f : Frame) (fs : List Frame) (sizes : List ℕ) (size : ℕ) (under : Made) (w : World)
-      (ticks : ℕ) → MovesWell types owner acts f fs sizes size under w ticks
-  pub lent : (acts : List Act) (f : Frame) (fs : List Frame) (sizes : List ℕ) (size : ℕ) (under : Made) (w : World)
-      (ticks : ℕ) → LendsWell types owner acts f fs sizes size under w ticks
-  pub read : (acts : List Act) (f : Frame) (fs : List Frame) (sizes : List ℕ) (size : ℕ) (under : Made) (w : World)
-      (ticks : ℕ) → ReadsWell types owner acts f fs sizes size under w ticks
-  pub relent : (acts : List Act) (f : Frame) (fs : List Frame) (sizes : List ℕ) (size : ℕ) (under : Made) (w : World)
-      (ticks : ℕ) → RelendsWell types owner acts f fs sizes size under w ticks
-  pub writers_read : (acts : List Act) (f : Frame) (fs : List Frame) (sizes : List ℕ) (size : ℕ) (under : Made)
-      (w : World) (ticks : ℕ) → WritersReadWell types owner acts f fs sizes size under w ticks
-  pub readers_read : (acts : List Act) (f : Frame) (fs : List Frame) (sizes : List ℕ) (size : ℕ) (under : Made)
-      (w : World) (ticks : ℕ) → ReadersReadWell types owner acts f fs sizes size under w ticks
-  pub named_statics : (acts : List Act) (f : Frame) (fs : List Frame) (sizes : List ℕ) (size : ℕ) (under : Made)
-      (w : World) → NoNamedStatics types owner acts f fs sizes size under w
-  pub writers_looked : (acts : List Act) (f : Frame) (fs : List Frame) (sizes : List ℕ) (size : ℕ) (under : Made)
-      (w : World) (ticks : ℕ) → WritersLookWell types owner acts f fs sizes size under w ticks
-  pub parts : (acts : List Act) (f : Frame) (fs : List Frame) (sizes : List ℕ) (size : ℕ) (under : Made) (w : World)
-      (ticks : ℕ) → PartsWell types owner acts f fs sizes size under w ticks
+  pub made_linear : (acts : List Act) (fs : List Frame) (sizes : List ℕ) (under : Made)
+      (w : World) (ticks : ℕ) → MakesLinearWell types owner acts fs sizes under w ticks
+  pub looked : (acts : List Act) (f : Frame) (fs : List Frame) (sizes : List ℕ) (size : ℕ)
+      (under : Made) (w : World) (ticks : ℕ) → LooksWell types owner acts f fs sizes size under w ticks
+  pub moved : (acts : List Act) (f : Frame) (fs : List Frame) (sizes : List ℕ) (size : ℕ)
+      (under : Made) (w : World) (ticks : ℕ) → MovesWell types owner acts f fs sizes size under w ticks
+  pub lent : (acts : List Act) (f : Frame) (fs : List Frame) (sizes : List ℕ) (size : ℕ)
+      (under : Made) (w : World) (ticks : ℕ) → LendsWell types owner acts f fs sizes size under w ticks
+  pub read : (acts : List Act) (f : Frame) (fs : List Frame) (sizes : List ℕ) (size : ℕ)
+      (under : Made) (w : World) (ticks : ℕ) → ReadsWell types owner acts f fs sizes size under w ticks
+  pub relent : (acts : List Act) (f : Frame) (fs : List Frame) (sizes : List ℕ) (size : ℕ)
+      (under : Made) (w : World) (ticks : ℕ) → RelendsWell types owner acts f fs sizes size under w ticks
+  pub writers_read : (acts : List Act) (f : Frame) (fs : List Frame) (sizes : List ℕ) (size : ℕ)
+      (under : Made) (w : World) (ticks : ℕ) → WritersReadWell types owner acts f fs sizes size under w ticks
+  pub readers_read : (acts : List Act) (f : Frame) (fs : List Frame) (sizes : List ℕ) (size : ℕ)
+      (under : Made) (w : World) (ticks : ℕ) → ReadersReadWell types owner acts f fs sizes size under w ticks
+  pub named_statics : (acts : List Act) (f : Frame) (fs : List Frame) (sizes : List ℕ) (size : ℕ)
+      (under : Made) (w : World) → NoNamedStatics types owner acts f fs sizes size under w
+  pub writers_looked : (acts : List Act) (f : Frame) (fs : List Frame) (sizes : List ℕ) (size : ℕ)
+      (under : Made) (w : World) (ticks : ℕ) → WritersLookWell types owner acts f fs sizes size under w ticks
+  pub parts : (acts : List Act) (f : Frame) (fs : List Frame) (sizes : List ℕ) (size : ℕ)
+      (under : Made) (w : World) (ticks : ℕ) → PartsWell types owner acts f fs sizes size under w ticks

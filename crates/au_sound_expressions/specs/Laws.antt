@@ -7,13 +7,13 @@ use Rattle.au_syntax.specs.Plain.{Bytes}
 use Rattle.au_memory.specs.Forests.{Made}
 use Rattle.au_memory.specs.Loans.{Types}
 use Rattle.au_borrows.specs.Orders.{Act, is_active}
-use Rattle.au_frames.specs.Frames.{Frame}
+use Rattle.au_running_judgements.specs.Frames.{Frame}
 use Rattle.au_meaning.specs.Expressions.{whole}
 use Rattle.au_meaning.specs.Names.{Scope}
 use Rattle.au_meaning.specs.Ticks.{Action}
 use Rattle.au_meaning.specs.Views.{View}
 use Rattle.au_meaning.specs.Worlds.{Value, World}
-use Rattle.au_safe_acts.specs.Good.{Good, IsIn, IsRunning, lying_in}
+use Rattle.au_running_judgements.specs.Good.{Good, IsIn, IsRunning, lying_in}
 use Rattle.au_running_judgements.specs.Expressions.{IsOf}
 use Rattle.au_running_judgements.specs.Known.{Callables, with_token}
 use Rattle.au_running_judgements.specs.Lives.{AreReady, Standing, spent}

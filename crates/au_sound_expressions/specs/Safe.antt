@@ -8,11 +8,11 @@ use Rattle.au_memory.specs.Loans.{Types}
 use Rattle.au_lending.specs.Ending.{freed}
 use Rattle.au_lending.specs.Records.{onto, types_made}
 use Rattle.au_borrows.specs.Orders.{Act, is_active}
-use Rattle.au_frames.specs.Frames.{Frame}
+use Rattle.au_running_judgements.specs.Frames.{Frame}
 use Rattle.au_meaning.specs.Ticks.{Action}
 use Rattle.au_meaning.specs.Worlds.{Value, World}
-use Rattle.au_safe_acts.specs.Good.{Good, IsIn, lying_in}
-use Rattle.au_safe_acts.specs.Making.{values_of}
+use Rattle.au_running_judgements.specs.Good.{Good, IsIn, lying_in}
+use Rattle.au_running_judgements.specs.Making.{values_of}
 use Rattle.au_running_judgements.specs.Known.{AreActive, Callables}
 use Rattle.au_running_judgements.specs.Lives.{AreReady, Standing, spent}
 

@@ -4,7 +4,5 @@
 
 mod adapters;
 mod block;
-#[cfg(test)]
-mod tests;
 
 pub use adapters::{DiskShelf, StderrSink, StdinSource, StdoutSink};

@@ -3,11 +3,11 @@ use Rattle.std.proofs.Common.{◌≡◌, false, List, Result, Ok, Err, subst}
 use Rattle.au_base.specs.declared.names.Entry.{Entry}
 use Rattle.au_base.specs.declared.statuses.Status.{Status}
 use Rattle.au_typing.specs.Trees.{NotedParts}
-use Rattle.au_noting_programs.specs.Faults.{IsDerived}
-use Rattle.au_closed_programs.specs.Answers.{ClosesWithin}
-use Rattle.au_closed_programs.specs.Programs.{ClosedProgram}
+use Rattle.au_outcomes.specs.NotingPrograms.Faults.{IsDerived}
+use Rattle.au_running.specs.Answers.{ClosesWithin}
+use Rattle.au_running.specs.Programs.{ClosedProgram}
 use Rattle.au_low.specs.declared.code.Code.{Code}
-use Rattle.au_lowering.specs.Closed.{is_too_long}
+use Rattle.au_running.specs.Closed.{is_too_long}
 use Rattle.au_running.specs.Coded.{IsProgramCode, TellsNoLimit}
 use Rattle.au_running.specs.declared.coding.Uncoded.{Uncoded}
 use Rattle.au_top.specs.Ends.{PaysFor, TextAnswers}

@@ -9,7 +9,7 @@ use Rattle.au_base.specs.declared.statuses.Status.TheVariants as status
 use Rattle.au_syntax.specs.Plain.{Bytes}
 use Rattle.au_modules.specs.Programs.{ModuleParts}
 use Rattle.au_typing.specs.Trees.{NotedParts}
-use Rattle.au_noting_programs.specs.Faults.{IsDerived}
+use Rattle.au_outcomes.specs.NotingPrograms.Faults.{IsDerived}
 use Rattle.au_outcomes.specs.Lines.{abort_line, steps_line}
 use Rattle.au_rules.specs.Good.{AllDeclarationsAreGood}
 use Rattle.au_runs.specs.Calls.{Rose}

@@ -5,8 +5,8 @@ use Rattle.au_base.specs.declared.statuses.Status.{Status}
 use Rattle.au_base.specs.declared.statuses.Status.TheVariants as status
 use Rattle.au_base.specs.Outside.{Adds}
 use Rattle.au_cprint.specs.Programs.{c_text}
-use Rattle.au_explain.specs.Lines.{life_text}
-use Rattle.au_explain.specs.declared.lists.Lives.{Lives}
+use Rattle.au_outcomes.specs.Explain.Lines.{life_text}
+use Rattle.au_outcomes.specs.Lives.{Lives}
 use Rattle.au_low.specs.declared.code.Code.{Code}
 use Rattle.au_top.specs.Calls.{Pays, Fails}
 use Rattle.au_top.specs.Dues.{due_line, explained_due}

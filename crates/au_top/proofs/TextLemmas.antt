@@ -12,12 +12,12 @@ use Rattle.au_modules.specs.Slots as slots
 use Rattle.au_typing.specs.Outsides.{outside_of}
 use Rattle.au_typing.specs.Trees.{NotedParts}
 use Rattle.au_typing.proofs.ProgramLemmas.{two_are_one}
-use Rattle.au_noting_programs.specs.Faults.{IsDerived}
-use Rattle.au_closed_programs.specs.Answers.{ClosesWithin}
-use Rattle.au_closed_programs.specs.Programs.{ClosedProgram, Closes}
-use Rattle.au_closed_programs.proofs.ClosedLemmas.{one_program}
+use Rattle.au_outcomes.specs.NotingPrograms.Faults.{IsDerived}
+use Rattle.au_running.specs.Answers.{ClosesWithin}
+use Rattle.au_running.specs.Programs.{ClosedProgram, Closes}
+use Rattle.au_running.proofs.ClosedPrograms.ClosedLemmas.{one_program}
 use Rattle.au_low.specs.declared.code.Code.{Code}
-use Rattle.au_lowering.specs.Closed.{code_of}
+use Rattle.au_running.specs.Closed.{code_of}
 use Rattle.au_running.specs.Ran.{HasNoEntry, IsLowered}
 use Rattle.au_running.specs.declared.coding.Uncoded.{Uncoded}
 use Rattle.au_running.specs.declared.coding.Uncoded.TheVariants as uncoded

@@ -6,8 +6,8 @@ use Rattle.au_base.specs.declared.outside.Shelf as shelf
 use Rattle.au_base.specs.declared.statuses.Status.{Status}
 use Rattle.au_base.specs.declared.statuses.Status.TheVariants as status
 use Rattle.au_base.specs.Outside.{Files, HasRisen}
-use Rattle.au_explain.specs.Lines.{life_text}
-use Rattle.au_explain.specs.declared.lists.Lives.{Lives}
+use Rattle.au_outcomes.specs.Explain.Lines.{life_text}
+use Rattle.au_outcomes.specs.Lives.{Lives}
 use Rattle.au_modules.specs.declared.modules.Modules.{Modules}
 use Rattle.au_modules.specs.Slots as slots
 use Rattle.au_words.specs.Jobs.{Task, IsJob}

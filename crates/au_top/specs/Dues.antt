@@ -3,8 +3,8 @@ use Rattle.std.specs.Prelude.{IsTrue, ◌≡◌, ℕ, ◌<◌, ◌≤◌, List, 
 use Rattle.au_base.specs.declared.statuses.Status.{Status}
 use Rattle.au_base.specs.declared.statuses.Status.TheVariants as status
 use Rattle.au_base.specs.Outside.{Files}
-use Rattle.au_explain.specs.Lines.{life_text}
-use Rattle.au_explain.specs.declared.lists.Lives.{Lives}
+use Rattle.au_outcomes.specs.Explain.Lines.{life_text}
+use Rattle.au_outcomes.specs.Lives.{Lives}
 use Rattle.au_words.specs.Jobs.{Task, IsJob, IsNoJob}
 use Rattle.au_words.specs.declared.jobs.Command.TheVariants as command
 use Rattle.au_outcomes.specs.Lines.{words_line, accepted_line, missing_line, limit_line, refusal_line}

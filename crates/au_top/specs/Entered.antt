@@ -3,9 +3,9 @@ use Rattle.std.specs.Prelude.{◌≡◌, ℕ, false, List, Option}
 use Rattle.au_base.specs.declared.names.Entry.{Entry}
 use Rattle.au_base.specs.Outside.{Files}
 use Rattle.au_words.specs.Jobs.{Task}
-use Rattle.au_closed_programs.specs.Answers.{ClosesWithin}
-use Rattle.au_closed_programs.specs.Programs.{ClosedProgram}
-use Rattle.au_lowering.specs.Closed.{is_too_long}
+use Rattle.au_running.specs.Answers.{ClosesWithin}
+use Rattle.au_running.specs.Programs.{ClosedProgram}
+use Rattle.au_running.specs.Closed.{is_too_long}
 use Rattle.au_modules.specs.Programs.{ModuleParts}
 use Rattle.au_typing.specs.Trees.{NotedParts}
 use Rattle.au_outcomes.specs.Accepted.{AreAcceptedAs}

@@ -7,7 +7,7 @@ use Rattle.au_outcomes.specs.Accepted.{Accepted, AreAcceptedAs}
 use Rattle.au_outcomes.specs.Programs.{read_lives}
 use Rattle.au_outcomes.specs.Trees.{ReadFile}
 use Rattle.au_low.specs.declared.code.Code.{Code}
-use Rattle.au_lowering.specs.Closed.{code_of}
+use Rattle.au_running.specs.Closed.{code_of}
 use Rattle.au_running.specs.declared.coding.Uncoded.{Uncoded}
 use Rattle.au_running.specs.declared.ran.Ran.TheVariants as how
 use Rattle.au_top.specs.Calls.{Aborts, Call, GoesBehind, HasPaid, HasProgram, IsDecided, IsDone}

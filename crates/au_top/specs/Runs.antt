@@ -10,7 +10,7 @@ use Rattle.au_words.specs.Jobs.{Task}
 use Rattle.au_modules.specs.Programs.{ModuleParts}
 use Rattle.au_modules.specs.Seen.{name_of}
 use Rattle.au_typing.specs.Trees.{NotedParts}
-use Rattle.au_noting_programs.specs.Faults.{IsDerived}
+use Rattle.au_outcomes.specs.NotingPrograms.Faults.{IsDerived}
 use Rattle.au_outcomes.specs.Lines.{abort_line, limit_line, read_fault_line, refusal_line, steps_line}
 use Rattle.au_outcomes.specs.declared.refusals.Refusal.TheVariants as refusal
 use Rattle.au_running.specs.Ran.{ProgramEnds, ProgramIsCut}

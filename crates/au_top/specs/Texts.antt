@@ -3,14 +3,14 @@ use Rattle.std.specs.Prelude.{◌≡◌, ℕ, false, List, [], Result, Ok, Err, 
 use Rattle.au_base.specs.declared.names.Entry.{Entry}
 use Rattle.au_base.specs.declared.statuses.Status.TheVariants as status
 use Rattle.au_base.specs.Outside.{Files}
-use Rattle.au_closed_programs.specs.Answers.{ClosesWithin}
-use Rattle.au_closed_programs.specs.Programs.{ClosedProgram}
+use Rattle.au_running.specs.Answers.{ClosesWithin}
+use Rattle.au_running.specs.Programs.{ClosedProgram}
 use Rattle.au_cprint.specs.Programs.{c_text}
 use Rattle.au_low.specs.declared.code.Code.{Code}
-use Rattle.au_lowering.specs.Closed.{is_too_long}
+use Rattle.au_running.specs.Closed.{is_too_long}
 use Rattle.au_modules.specs.declared.modules.Modules.{Modules}
 use Rattle.au_modules.specs.Slots as slots
-use Rattle.au_noting_programs.specs.Faults.{IsDerived}
+use Rattle.au_outcomes.specs.NotingPrograms.Faults.{IsDerived}
 use Rattle.au_outcomes.specs.Lines.{limit_line, refusal_line}
 use Rattle.au_outcomes.specs.Outcomes.{Comes}
 use Rattle.au_outcomes.specs.declared.outcomes.Aim.TheVariants as aims

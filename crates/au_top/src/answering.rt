@@ -3,7 +3,7 @@
 ghost use Rattle.std.specs.Prelude.{◌≡◌, Err, OnOk, IfOk, IfErr, IfSome, IsTrue, map};
 ghost use Rattle.std.specs.String.{string_bytes};
 ghost use Rattle.au_base.specs.Outside.{HasRisen, Adds, AddsFront};
-ghost use Rattle.au_explain.specs.Lines.{life_text};
+ghost use Rattle.au_outcomes.specs.Explain.Lines.{life_text};
 ghost use Rattle.au_top.specs.Calls.{Fails, Pays};
 ghost use Rattle.au_outcomes.specs.Outcomes.{is_outcome};
 ghost use Rattle.au_top.specs.Dues.{due_of};
@@ -14,8 +14,7 @@ use crate::compiling::compile;
 use crate::running::run;
 use crate::saying::{AnswerFault, say};
 use au_base::{Entry, Sink, Source, Status, put_all};
-use au_explain::{Lives, PrintFault, explain};
-use au_outcomes::{Outcome, limit_line, missing_line, refusal_text};
+use au_outcomes::{Lives, Outcome, PrintFault, explain, limit_line, missing_line, refusal_text};
 use std::alloc::Global;
 
 /// The line for words that are no job.

@@ -17,8 +17,7 @@ use crate::saying::{AnswerFault, say};
 use au_base::{Entry, Limit, Sink, Status};
 use au_cprint::{PrintFault, print_c};
 use au_low::Code;
-use au_noting_programs::NotedProgram;
-use au_outcomes::{Refusal, limit_line};
+use au_outcomes::{NotedProgram, Refusal, limit_line};
 use au_running::{Uncoded, program_code};
 use std::alloc::Global;
 

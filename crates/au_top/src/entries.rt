@@ -6,7 +6,7 @@ ghost use Rattle.au_top.specs.Runs as runs;
 
 use au_base::{Entry, Memory, Name};
 use au_modules::Modules;
-use au_noting_programs::NotedProgram;
+use au_outcomes::NotedProgram;
 use std::alloc::Global;
 
 /// The function with which a program begins where no entry is named, and the module where there is none.

@@ -14,8 +14,7 @@ use crate::answering::Asked;
 use crate::entries::entry_for;
 use crate::saying::{AnswerFault, READ_FAULT_LINE, say};
 use au_base::{Entry, Memory, Sink, Source, Status};
-use au_noting_programs::NotedProgram;
-use au_outcomes::{Refusal, abort_line, limit_line, refusal_text, steps_line};
+use au_outcomes::{NotedProgram, Refusal, abort_line, limit_line, refusal_text, steps_line};
 use au_running::{Ran, Report, run_program};
 use std::alloc::Global;
 

@@ -1,6 +1,6 @@
 use Rattle.std.proofs.Common.{◌≡◌, drop}
 use Rattle.au_closed_trees.specs.Views.{fields_said}
-use Rattle.au_lowering_expressions.specs.Views.{scope_said}
+use Rattle.au_lowering_statements.specs.LoweringExpressions.Views.{scope_said}
 use Rattle.au_lowering.specs.Closed.{fields_seen}
 use Rattle.au_meaning.specs.Names.{with_parameters}
 use Rattle.au_lowering.proofs.drafting.declare_parameters.Given as goal

@@ -2,7 +2,7 @@ use Rattle.std.proofs.Common.{◌≡◌, drop, map}
 use Rattle.std.specs.Str.{bytes_eq}
 use Rattle.au_type_texts.specs.Keys.{key_of}
 use Rattle.au_lowered.specs.Programs.{texts_named, types_named}
-use Rattle.au_lowering_expressions.specs.Views.{drafts_said}
+use Rattle.au_lowering_statements.specs.LoweringExpressions.Views.{drafts_said}
 use Rattle.au_graphs.specs.Reached.{adds}
 use Rattle.au_lowering.proofs.numbering.collect.Given as goal
 

@@ -1,6 +1,6 @@
 use Rattle.std.proofs.Common.{◌≡◌, ◌++◌, map}
 use Rattle.std.specs.Vec.Iter.{into_iter_items}
-use Rattle.au_lowering_expressions.specs.Views.{drafts_said}
+use Rattle.au_lowering_statements.specs.LoweringExpressions.Views.{drafts_said}
 use Rattle.au_lowering.specs.Keyed.{keyed}
 use Rattle.au_lowering.proofs.numbering.number_all.Given as goal
 

@@ -1,11 +1,11 @@
 -- No limit is told where none is passed.
 use Rattle.std.proofs.Common.{Err, ap, subst}
-use Rattle.au_closed_programs.specs.Views.{program_said}
+use Rattle.au_lowering.specs.ClosedPrograms.Views.{program_said}
 use Rattle.au_lowering.specs.Answers.{TellsLimit}
 use Rattle.au_lowering.specs.Closed.{is_too_long}
 use Rattle.au_lowering.specs.declared.faults.LowerFault.{LowerFault}
 use Rattle.au_modules.specs.Slots as slots
-use Rattle.au_noting_programs.specs.Said.{modules_said}
+use Rattle.au_lowering.specs.Said.{modules_said}
 use Rattle.au_running.proofs.CodingLemmas.{close_tells, lower_tells}
 use Rattle.au_running.proofs.coding.closed_code.Goals as goal
 

@@ -4,7 +4,7 @@ use Rattle.std.proofs.lemmas.Result.{IfOk-weaker, on_err_weaker}
 use Rattle.au_typing.specs.Trees.{NotedParts}
 use Rattle.au_low.specs.Runs.{low_run}
 use Rattle.au_modules.specs.Slots as slots
-use Rattle.au_noting_programs.specs.Faults.{IsDerived}
+use Rattle.au_lowering.specs.Faults.{IsDerived}
 use Rattle.au_runs.specs.Calls.{IsCut}
 use Rattle.au_running.specs.Came.{CodeEnds}
 use Rattle.au_running.specs.Coded.{HasCode}

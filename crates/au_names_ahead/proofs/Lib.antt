@@ -1,0 +1,12 @@
+pub mod VerdictLemmas
+pub mod ScopeLemmas
+pub mod UseLemmas
+pub mod StepLemmas
+pub mod StandLemmas
+pub mod BornLemmas
+pub mod OpenLemmas
+pub mod InnerLemmas
+pub mod WalkLemmas
+pub mod LivedLemmas
+pub mod ReturnLemmas
+pub mod PartLemmas

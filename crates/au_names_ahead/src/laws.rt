@@ -1,0 +1,12 @@
+//! The bridge from the lives of variables to all names, as the contract of a call that does nothing.
+
+ghost use Rattle.std.specs.Prelude.{ℕ};
+ghost use Rattle.au_lives.specs.declared.lives.Sort.{Sort};
+ghost use Rattle.au_meaning.specs.Views.{Function};
+ghost use Rattle.au_names_ahead.specs.Lived.{LivesAreAhead};
+
+/// Where the variables of a function that returns have good lives, all its names get through what lies ahead
+/// of them.
+pub fn lives_are_ahead<I, T, C>()
+    ensures { (sorts : ℕ → Sort) (f : Function I T C) → LivesAreAhead sorts f }
+{}
