@@ -15,16 +15,17 @@ use Rattle.au_written_types.specs.Written.{IsWritten}
 use Rattle.au_known_types.specs.Known.{ValuesAreKnown}
 use Rattle.au_standing_types.specs.Standing.{StandsFor}
 
--- What a call notes for the type parameters of what is called fits them, is known where the call stands, and fixes all
--- that is written over them.
+-- What a call notes for the type parameters of what is called fits them, is known where the call stands,
+-- and fixes all that is written over them.
 pub record IsNotedFor (heads : List (DeclAt × Head)) (own params : List Parameter) (regions : List Bytes)
     (noted : Bindings) : Type 0 where
   pub fit : BindingsAreWellFormed heads own params noted
   pub values : ValuesAreKnown heads params regions noted
   pub fixes : (t : Meaning) → IsWritten [] own t → Fixes noted t
 
--- Then, in a frame in which the caller's names stand for something, it stands for the type parameters of what is called,
--- with what the meaning gives for them; and what is written over these is there what it is for the caller.
+-- Then, in a frame in which the caller's names stand for something, it stands for the type parameters of
+-- what is called, with what the meaning gives for them; and what is written over these is there what it is
+-- for the caller.
 abbrev pub CalleesStand : Type 0
 CalleesStand =
     (heads : List (DeclAt × Head)) (own params : List Parameter) (regions : List Bytes) (given : Given)

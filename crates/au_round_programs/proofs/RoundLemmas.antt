@@ -23,7 +23,8 @@ use Rattle.au_names.specs.HeadsOf.{heads_of}
 use Rattle.au_names.specs.Standing.{Standing, definition_of, standing_at}
 use Rattle.au_promises.specs.Mentions.{type_parameters}
 use Rattle.au_closing.specs.Instances.{Instance}
-use Rattle.au_typing.specs.Insides.{cases_defined, cases_of, fields_under, known_definition, typed_under, with_arguments}
+use Rattle.au_typing.specs.Insides.{cases_defined, cases_of, fields_under, known_definition, typed_under}
+use Rattle.au_typing.specs.Insides.{with_arguments}
 use Rattle.au_typing.specs.Outsides.{outside_of}
 use Rattle.au_typing.specs.Scopes.{Case, Typed}
 use Rattle.au_typing.specs.Trees.{NotedParts}

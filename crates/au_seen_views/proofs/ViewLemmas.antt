@@ -1,6 +1,7 @@
 -- Records and unions as the view of a body sees them.
 use Rattle.std.proofs.Common.{◌≡◌, ℕ, zero, suc, ◌+◌, Bool, true, false, cond, true≢false, List, []}
-use Rattle.std.proofs.Common.{◌∷◌, map, find, Option, None, Some, refl, sym, ap, ◌∙◌, subst, arith, if◌then◌else◌}
+use Rattle.std.proofs.Common.{◌∷◌, map, find, Option, None, Some, refl, sym, ap, ◌∙◌, subst, arith}
+use Rattle.std.proofs.Common.{if◌then◌else◌}
 use Rattle.std.specs.Prelude.{option_and_then, slice_get}
 use Rattle.std.specs.Option.{option_map}
 use Rattle.std.specs.Str.{bytes_eq}
@@ -33,7 +34,8 @@ use Rattle.au_names.specs.Standing.{Standing, definition_of, standing_at}
 use Rattle.au_promises.specs.Mentions.{type_parameters}
 use Rattle.au_formed.specs.Good.{HasCase}
 use Rattle.au_closing.specs.Leading.{case_name, declared_name}
-use Rattle.au_typing.specs.Insides.{case_target, case_under, cases_defined, cases_of, cases_under, fields_defined, fields_of}
+use Rattle.au_typing.specs.Insides.{case_target, case_under, cases_defined, cases_of, cases_under}
+use Rattle.au_typing.specs.Insides.{fields_defined, fields_of}
 use Rattle.au_typing.specs.Insides.{fields_under, known_definition, record_fields, union_cases}
 use Rattle.au_typing.specs.Outsides.{outside_of}
 use Rattle.au_typing.specs.Parts.{case_meant}
@@ -43,7 +45,8 @@ use Rattle.au_typing.specs.Written.{seen_at, types_at}
 use Rattle.au_closed_trees.specs.Parts as parts
 use Rattle.au_closed_trees.specs.Parts.{ClosedCase}
 use Rattle.au_closed_trees.specs.TypeNames.{listed}
-use Rattle.au_tables.specs.Tables.{DefinitionsFit, case_fields, cases_written, defined_fields, field_types, fields_in}
+use Rattle.au_tables.specs.Tables.{DefinitionsFit, case_fields, cases_written, defined_fields, field_types}
+use Rattle.au_tables.specs.Tables.{fields_in}
 use Rattle.au_tables.specs.Tables.{is_well_formed, types_of}
 use Rattle.au_tables.proofs.LawfulLemmas.{followed_is}
 use Rattle.au_closed_meanings.specs.Generic as meaning
@@ -57,7 +60,7 @@ use Rattle.au_running_records.proofs.RecordLemmas.{known_defined, record_runs, u
 use Rattle.au_seen_fields.proofs.SeenLemmas.{first_of, record_seen, rest_of, under_names, union_seen}
 use Rattle.au_typed_runs.specs.Frames.{RecordIsSeen}
 use Rattle.au_typed_blocks.specs.Rounds.{UnionIsSeen, names_of}
-use Rattle.au_typed_blocks.proofs.BlockLemmas.{meant_target}
+use Rattle.au_typed_blocks.proofs.PieceLemmas.{meant_target}
 use Rattle.au_seen_views.specs.Views.{DefinitionsAreApart, EachCaseIsKnown}
 
 nil≢cons : (name : Bytes) (names : List Bytes) → [] ≡ name ∷ names → ⊥
