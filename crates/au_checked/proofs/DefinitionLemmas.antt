@@ -1,5 +1,6 @@
 -- Declarations of a checked program are well made, and its definitions fit.
-use Rattle.std.proofs.Common.{◌≡◌, ◌⊎◌, inl, inr, ℕ, zero, suc, ◌+◌, Bool, true, false, cond, true≢false, List, []}
+use Rattle.std.proofs.Common.{◌≡◌, ◌⊎◌, inl, inr, ℕ, zero, suc, ◌+◌, Bool, true, false, cond, true≢false}
+use Rattle.std.proofs.Common.{List, []}
 use Rattle.std.proofs.Common.{◌∷◌, map, find, Option}
 use Rattle.std.proofs.Common.{None, Some, refl, sym, ap, ◌∙◌, subst}
 use Rattle.std.specs.Prelude.{slice_get}
@@ -16,7 +17,8 @@ use Rattle.au_modules.specs.Programs.{ModuleParts}
 use Rattle.au_names.specs.DeclaredTypes.{DeclaredType, a_type, type_declared}
 use Rattle.au_names.specs.HeadsOf.{heads_of}
 use Rattle.au_names.specs.Owned.{declarations_in}
-use Rattle.au_names.specs.Standing.{Standing, body_at, defined_by, definition_for, definition_of, is_named, is_whole}
+use Rattle.au_names.specs.Standing.{Standing, body_at, defined_by, definition_for, definition_of, is_named}
+use Rattle.au_names.specs.Standing.{is_whole}
 use Rattle.au_names.specs.Standing.{opaque_name, standing_at, standing_from, whole_name}
 use Rattle.au_promises.specs.Fulfilled.{AllFulfil}
 use Rattle.au_promises.specs.Mentions.{type_parameters}

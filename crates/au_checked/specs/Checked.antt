@@ -14,9 +14,10 @@ use Rattle.au_shipped.specs.Shipped.{shipped_files}
 use Rattle.au_closing_laws.specs.Gathered.{IsGathered, entry_of}
 use Rattle.au_tables.specs.Tables.{DefinitionsFit}
 
--- A program with notes is checked: it is gathered of the shipped files and of parsed ones, which are those of a program;
--- its names are good; each thing that an interface promises is defined in its body as it is declared; its declarations
--- and its instances are good; the rules of typing derive it with these notes; and each variable has a good life.
+-- A program with notes is checked: it is gathered of the shipped files and of parsed ones, which are those
+-- of a program; its names are good; each thing that an interface promises is defined in its body as it is
+-- declared; its declarations and its instances are good; the rules of typing derive it with these notes;
+-- and each variable has a good life.
 pub record IsChecked (program : List ModuleParts) (noted : List NotedParts) : Type 0 where
   pub gathered : IsGathered program
   pub files : IsProgram (map entry_of shipped_files ++ gathered.own)

@@ -2,8 +2,8 @@
 
 ghost use Rattle.au_checked.specs.Checked.{CheckedDefinitionsFit};
 
-/// In a checked program the definitions of declared types have the type parameters and the universes of their rows,
-/// and are well made.
+/// In a checked program the definitions of declared types have the type parameters and the universes of
+/// their rows, and are well made.
 pub fn checked_programs_fit()
     ensures { CheckedDefinitionsFit }
 {}

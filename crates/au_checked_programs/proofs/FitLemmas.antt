@@ -16,7 +16,8 @@ use Rattle.au_types.specs.declared.types.DeclAt.{DeclAt}
 use Rattle.au_types.specs.Rows.{head_of}
 use Rattle.au_types.specs.Types.{Meaning, named}
 use Rattle.au_types.specs.Universes.{universe_in}
-use Rattle.au_matching.specs.Forming.{IsWellFormed, all_fit, all_formed, argument_formed, fit_row, fits, is_formed}
+use Rattle.au_matching.specs.Forming.{IsWellFormed, all_fit, all_formed, argument_formed, fit_row, fits}
+use Rattle.au_matching.specs.Forming.{is_formed}
 use Rattle.au_matching.specs.Substituted.{EachNameOf, EachNameOfAll}
 use Rattle.au_matching.specs.Universes.{is_free, is_linear, of_parameter, universe_of}
 use Rattle.au_matching.specs.declared.universes.TypeUniverse.TheVariants.{AnyUniverse}
@@ -27,7 +28,8 @@ use Rattle.au_modules.specs.Programs.{ModuleParts}
 use Rattle.au_names.specs.DeclaredTypes.{DeclaredType, type_declared}
 use Rattle.au_names.specs.HeadsOf.{heads_of}
 use Rattle.au_names.specs.Owned.{declarations_in}
-use Rattle.au_names.specs.Standing.{Standing, body_at, defined_by, definition_for, definition_of, is_whole, opaque_name}
+use Rattle.au_names.specs.Standing.{Standing, body_at, defined_by, definition_for, definition_of, is_whole}
+use Rattle.au_names.specs.Standing.{opaque_name}
 use Rattle.au_names.specs.Standing.{standing_at, whole_name}
 use Rattle.au_imports.specs.Good.{IsGood}
 use Rattle.au_typing.specs.Called.{as_argument, as_arguments, type_itself}

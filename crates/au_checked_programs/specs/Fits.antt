@@ -19,8 +19,8 @@ AcceptedAreChecked =
     (files : Files) (names all : List (List ℕ)) (reads : List ReadFile) (a : AreAcceptedAs files names all reads)
     → IsChecked (program_modules reads) a.noted
 
--- In a checked program each declaration is well made where it stands, and the type of each record and union is one that
--- it could write itself.
+-- In a checked program each declaration is well made where it stands, and the type of each record and union
+-- is one that it could write itself.
 abbrev pub CheckedDeclarationsFit : Type 0
 CheckedDeclarationsFit =
     (program : List ModuleParts) (noted : List NotedParts) → IsChecked program noted → DeclarationsFit program

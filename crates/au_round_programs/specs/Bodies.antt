@@ -30,7 +30,8 @@ use Rattle.au_seen_views.specs.Rounds.{RoundFits}
 use Rattle.au_checked_programs.specs.Checked.{IsChecked}
 
 module _ (program : List ModuleParts) (noted : List NotedParts) (place : ℕ) (generics : List Bounded) (given : Given) where
-  -- The constants that are seen in a body have values of their types, none of which is a record or a reference.
+  -- The constants that are seen in a body have values of their types, none of which is a record or a
+  -- reference.
   pub record ConstantsStand : Type 0 where
     pub values : (s : Bindings) (z : ℕ) (name : Bytes) (t : Meaning) (n : Note)
         → (outside_of program place Body).constant name ≡ Some t
@@ -50,8 +51,8 @@ module _ (program : List ModuleParts) (noted : List NotedParts) (place : ℕ) (g
       → CallsRun (types_of program) owner (view_under program noted place (parameters generics) given) known names active
       sc scope s given z
 
-  -- Where constants stand and calls run, what is known round a body of a checked program agrees with what is known where
-  -- it runs.
+  -- Where constants stand and calls run, what is known round a body of a checked program agrees with what
+  -- is known where it runs.
   abbrev pub RoundsFit : (ClosedType → Option (List ℕ)) → {K : Type 0} → Callables Instance K → Type 0
   RoundsFit owner known =
       IsChecked program noted → ConstantsStand → CallsRunHere owner known

@@ -46,8 +46,9 @@ module _ (program : List ModuleParts) (noted : List NotedParts) (body : BodyOf) 
         (meaning.with_parameters first (parameters_under program noted given body) []) body.block
         (with_types first kinds names)
 
-  -- A body that is good by the rules of typing runs in a frame where what stands for its type parameters is good and the
-  -- regions among these may be used, where constants stand and calls run, and where it is what it is asked besides.
+  -- A body that is good by the rules of typing runs in a frame where what stands for its type parameters is
+  -- good and the regions among these may be used, where constants stand and calls run, and where it is what
+  -- it is asked besides.
   abbrev pub BodiesOfProgramsRun : (ClosedType → Option (List ℕ)) → {K : Type 0} → Callables Instance K → Type 0
   BodiesOfProgramsRun owner known =
       IsChecked program noted → (good : GoodBody (outside_of program body.place Body) body.generics body.header body.block)

@@ -1,5 +1,6 @@
 -- Records and unions that are known in a module, where they run.
-use Rattle.std.proofs.Common.{◌≡◌, ℕ, zero, suc, Bool, true, false, cond, List, [], ◌∷◌, map, Option, None, Some, refl}
+use Rattle.std.proofs.Common.{◌≡◌, ℕ, zero, suc, Bool, true, false, cond, List, [], ◌∷◌, map, Option, None}
+use Rattle.std.proofs.Common.{Some, refl}
 use Rattle.std.proofs.Common.{sym, ap, ◌∙◌}
 use Rattle.std.specs.Prelude.{if◌then◌else◌, option_and_then, slice_get}
 use Rattle.std.specs.Option.{option_map}
@@ -20,10 +21,13 @@ use Rattle.au_modules.specs.Programs.{ModuleParts}
 use Rattle.au_names.specs.HeadsOf.{heads_of}
 use Rattle.au_names.specs.Standing.{Standing, definition_of, standing_at}
 use Rattle.au_promises.specs.Mentions.{type_parameters}
-use Rattle.au_typing.specs.Insides.{case_target, case_under, cases_defined, cases_of, cases_under, fields_defined, fields_of}
-use Rattle.au_typing.specs.Insides.{fields_under, is_known, known_definition, known_standing, record_fields, union_cases}
+use Rattle.au_typing.specs.Insides.{case_target, case_under, cases_defined, cases_of, cases_under}
+use Rattle.au_typing.specs.Insides.{fields_defined, fields_of}
+use Rattle.au_typing.specs.Insides.{fields_under, is_known, known_definition, known_standing, record_fields}
+use Rattle.au_typing.specs.Insides.{union_cases}
 use Rattle.au_typing.specs.Scopes.{Case, Typed}
-use Rattle.au_tables.specs.Tables.{DefinitionsFit, case_fields, cases_written, defined_fields, field_types, fields_in}
+use Rattle.au_tables.specs.Tables.{DefinitionsFit, case_fields, cases_written, defined_fields, field_types}
+use Rattle.au_tables.specs.Tables.{fields_in}
 use Rattle.au_tables.specs.Tables.{is_well_formed}
 use Rattle.au_tables.proofs.LawfulLemmas.{followed_is}
 use Rattle.au_tables.proofs.RunLemmas.{fields_running}

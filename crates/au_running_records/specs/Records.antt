@@ -16,7 +16,8 @@ use Rattle.au_tables.specs.Tables.{DefinitionsFit, fields_in}
 abbrev pub kinds_running : Bindings → ℕ → List Typed → List Meaning
 kinds_running s z fields = map (λ (one : Typed). running s z one.of) fields
 
--- A record that is known in a module has one case where it runs, and the fields of this are its own, where they run.
+-- A record that is known in a module has one case where it runs, and the fields of this are its own, where
+-- they run.
 abbrev pub RecordsRun : Type 0
 RecordsRun =
     (program : List ModuleParts) → DefinitionsFit program → (place : ℕ) (params : List Parameter) (s : Bindings) (z : ℕ)

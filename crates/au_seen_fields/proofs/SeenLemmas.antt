@@ -21,8 +21,10 @@ use Rattle.au_modules.specs.Programs.{ModuleParts}
 use Rattle.au_names.specs.HeadsOf.{heads_of}
 use Rattle.au_names.specs.Standing.{Standing, definition_of, standing_at}
 use Rattle.au_promises.specs.Mentions.{type_parameters}
-use Rattle.au_typing.specs.Insides.{case_target, case_under, cases_defined, cases_of, cases_under, fields_defined, fields_of}
-use Rattle.au_typing.specs.Insides.{fields_under, known_definition, record_fields, typed_under, union_cases, with_arguments}
+use Rattle.au_typing.specs.Insides.{case_target, case_under, cases_defined, cases_of, cases_under}
+use Rattle.au_typing.specs.Insides.{fields_defined, fields_of}
+use Rattle.au_typing.specs.Insides.{fields_under, known_definition, record_fields, typed_under, union_cases}
+use Rattle.au_typing.specs.Insides.{with_arguments}
 use Rattle.au_typing.specs.Scopes.{Case, Typed}
 use Rattle.au_typing.specs.Written.{all_typed, meant_in, typed, types_at}
 use Rattle.au_closed_tables.specs.Parts as parts

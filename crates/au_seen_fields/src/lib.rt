@@ -1,4 +1,5 @@
-//! Fields as the meaning of a program sees them. The crate holds definitions, in `specs/`, and laws about them.
+//! Fields as the meaning of a program sees them. The crate holds definitions, in `specs/`, and laws about
+//! them.
 #![tactic(auto)]
 
 pub mod laws;

@@ -1,6 +1,7 @@
 -- Records and unions as the view of a body sees them.
 use Rattle.std.proofs.Common.{◌≡◌, ℕ, zero, suc, ◌+◌, Bool, true, false, cond, true≢false, List, []}
-use Rattle.std.proofs.Common.{◌∷◌, map, find, Option, None, Some, refl, sym, ap, ◌∙◌, subst, arith, if◌then◌else◌}
+use Rattle.std.proofs.Common.{◌∷◌, map, find, Option, None, Some, refl, sym, ap, ◌∙◌, subst, arith}
+use Rattle.std.proofs.Common.{if◌then◌else◌}
 use Rattle.std.specs.Prelude.{option_and_then, slice_get}
 use Rattle.std.specs.Option.{option_map}
 use Rattle.std.specs.Str.{bytes_eq}
@@ -57,7 +58,7 @@ use Rattle.au_seen_fields.proofs.RecordLemmas.{known_defined, record_runs, union
 use Rattle.au_seen_fields.proofs.SeenLemmas.{first_of, record_seen, rest_of, under_names, union_seen}
 use Rattle.au_typed_blocks.specs.Frames.{RecordIsSeen}
 use Rattle.au_typed_blocks.specs.Rounds.{UnionIsSeen, names_of}
-use Rattle.au_typed_blocks.proofs.BlockLemmas.{meant_target}
+use Rattle.au_typed_blocks.proofs.PieceLemmas.{meant_target}
 use Rattle.au_seen_views.specs.Views.{DefinitionsAreApart, EachCaseIsKnown}
 
 nil≢cons : (name : Bytes) (names : List Bytes) → [] ≡ name ∷ names → ⊥

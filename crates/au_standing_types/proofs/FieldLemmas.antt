@@ -1,5 +1,6 @@
 -- Fields of types without `~`.
-use Rattle.std.proofs.Common.{◌≡◌, ℕ, zero, suc, Bool, true, false, cond, List, [], ◌∷◌, map, Option, None, Some, refl, sym, ap}
+use Rattle.std.proofs.Common.{◌≡◌, ℕ, zero, suc, Bool, true, false, cond, List, [], ◌∷◌, map, Option, None}
+use Rattle.std.proofs.Common.{Some, refl, sym, ap}
 use Rattle.std.proofs.Common.{◌∙◌, subst}
 use Rattle.std.specs.Prelude.{slice_get}
 use Rattle.std.specs.Str.{bytes_eq}
@@ -15,7 +16,8 @@ use Rattle.au_types.specs.declared.types.Region.TheVariants.{Static, Named, Anon
 use Rattle.au_types.specs.Types.{Meaning, Argument, Arguments, unit, truth, integer, text, parameter, named}
 use Rattle.au_types.specs.Types.{reads, writes, of_type, in_region, no_arguments, arguments}
 use Rattle.au_matching.specs.Bindings.{Bindings, value_of}
-use Rattle.au_matching.specs.Substituted.{all_substituted, argument_substituted, region_for, region_substituted}
+use Rattle.au_matching.specs.Substituted.{all_substituted, argument_substituted, region_for}
+use Rattle.au_matching.specs.Substituted.{region_substituted}
 use Rattle.au_matching.specs.Substituted.{substituted, type_for}
 use Rattle.au_matching.proofs.BindingLemmas.{value_of-with}
 use Rattle.au_judged_types.specs.Meanings as judged

@@ -22,8 +22,8 @@ use Rattle.au_typing.specs.Scopes.{Typed}
 use Rattle.au_tables.specs.Tables.{types_of}
 use Rattle.au_known_types.specs.Known.{IsKnown}
 
--- Bindings stand for type parameters: what they put is well formed over none and fits, and each type closes to what is
--- given for its name.
+-- Bindings stand for type parameters: what they put is well formed over none and fits, and each type closes
+-- to what is given for its name.
 pub record StandsFor (heads : List (DeclAt × Head)) (params : List Parameter) (given : Given) (s : Bindings) : Type 0
   where
     pub formed : BindingsAreWellFormed heads params [] s

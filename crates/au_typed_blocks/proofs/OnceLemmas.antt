@@ -1,5 +1,6 @@
 -- Names that stand once each, in another order.
-use Rattle.std.proofs.Common.{◌≡◌, ◌⊎◌, inl, inr, ℕ, zero, suc, ◌+◌, ◌==◌, ◌||◌, Bool, true, false, cond, true≢false, List}
+use Rattle.std.proofs.Common.{◌≡◌, ◌⊎◌, inl, inr, ℕ, zero, suc, ◌+◌, ◌==◌, ◌||◌, Bool, true, false, cond}
+use Rattle.std.proofs.Common.{true≢false, List}
 use Rattle.std.proofs.Common.{[], ◌∷◌, ◌++◌, find, Some, refl, sym, ap, ◌∙◌, subst, arith}
 use Rattle.std.specs.Prelude.{slice_get}
 use Rattle.std.specs.List.{count_by, list_all, list_any}
@@ -177,7 +178,8 @@ no_names : (names : List Bytes) → ((one : Bytes) → In one names → count_by
 no_names [] once = refl
 no_names (n ∷ rest) once = absurd (no_one (count_by (bytes_eq n) []) refl (once n (inl refl)))
 
--- Names that are apart, each of which stands once among others, which have no name besides, are these in another order.
+-- Names that are apart, each of which stands once among others, which have no name besides, are these in
+-- another order.
 reordered : (others names : List Bytes) → AreApart names
     → ((one : Bytes) → In one names → count_by (bytes_eq one) others ≡ 1)
     → ((one : Bytes) → In one others → In one names) → IsReordered others names

@@ -1,12 +1,14 @@
--- What statements are asked besides the rules of typing: nothing is consumed where it may be left out, the region of a
--- borrow statement is new, and a name is dropped only where its type allows it.
+-- What statements are asked besides the rules of typing: nothing is consumed where it may be left out, the
+-- region of a borrow statement is new, and a name is dropped only where its type allows it.
 use Rattle.std.specs.Prelude.{◌≡◌, ◌⊎◌, ℕ, suc, ◌+◌, Bool, true, false, List, [], ◌∷◌, length, None, Ok}
 use Rattle.std.specs.List.{list_any}
 use Rattle.std.specs.Str.{bytes_eq}
 use Rattle.au_syntax.specs.Plain.{Bytes}
 use Rattle.au_syntax.specs.Statements.{skip, declare, destructure, assign, assign_through, conditional}
-use Rattle.au_syntax.specs.Statements.{conditional_else, case_of, while_loop, for_loop, borrow_in, borrow_typed, discard}
-use Rattle.au_syntax.specs.Statements.{return_of, no_statements, statements, no_branches, branches, no_arms, arms}
+use Rattle.au_syntax.specs.Statements.{conditional_else, case_of, while_loop, for_loop, borrow_in}
+use Rattle.au_syntax.specs.Statements.{borrow_typed, discard}
+use Rattle.au_syntax.specs.Statements.{return_of, no_statements, statements, no_branches, branches, no_arms}
+use Rattle.au_syntax.specs.Statements.{arms}
 use Rattle.au_syntax.specs.Types.{Bound}
 use Rattle.au_types.specs.declared.types.Region.{Region}
 use Rattle.au_types.specs.Types.{Meaning, writes}

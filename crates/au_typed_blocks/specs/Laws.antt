@@ -16,7 +16,8 @@ use Rattle.au_typed_runs.specs.Known.{Callables}
 use Rattle.au_typed_blocks.specs.Besides.{BesidesAll}
 use Rattle.au_typed_blocks.specs.Rounds.{PlaceFits}
 
--- A block that is good by the rules of typing runs in each frame that fits its scope, and returns what the body returns.
+-- A block that is good by the rules of typing runs in each frame that fits its scope, and returns what the
+-- body returns.
 module _ (types : Types) (owner : ClosedType → Option (List ℕ)) {I K : Type 0} (see : View I Note (Unit {0}))
     (known : Callables I K) (given : Given) (Stands : Bindings → Type 0) where
   abbrev pub BlocksRun : Type 0

@@ -1,5 +1,6 @@
 -- What is known round the statements of a body that runs, and at a place in it.
-use Rattle.std.specs.Prelude.{◌≡◌, ℕ, ◌<◌, Bool, true, false, List, map, Option, Some, None, is_some, slice_get}
+use Rattle.std.specs.Prelude.{◌≡◌, ℕ, ◌<◌, Bool, true, false, List, map, Option, Some, None, is_some}
+use Rattle.std.specs.Prelude.{slice_get}
 use Rattle.au_syntax.specs.Plain.{Bytes}
 use Rattle.au_types.specs.declared.types.Region.{Region}
 use Rattle.au_types.specs.declared.types.DeclAt.{DeclAt}
@@ -42,8 +43,8 @@ EachLasts fields = (place : ℕ) (one : Typed) → slice_get fields place ≡ So
 
 module _ (types : Types) {I : Type 0} (see : View I Note (Unit {0})) (outside : Outside) (s : Bindings) (given : Given)
     (z : ℕ) where
-  -- The cases of a union are seen as they are written: each under its number, with its fields; a name means one of them
-  -- where it does so by the rules; no two are one, and no two fields of one have one name.
+  -- The cases of a union are seen as they are written: each under its number, with its fields; a name means
+  -- one of them where it does so by the rules; no two are one, and no two fields of one have one name.
   pub record UnionIsSeen (t : Meaning) (cases : List Case) : Type 0 where
     pub at : DeclAt
     pub args : Arguments
@@ -62,8 +63,8 @@ module _ (types : Types) {I : Type 0} (see : View I Note (Unit {0})) (outside : 
         → one.target ≡ other.target → i ≡ j
     pub fields : (tag : ℕ) (one : Case) → slice_get cases tag ≡ Some one → AreApart (names_of one.fields)
 
--- What is known round a body, by the rules of typing, agrees with what is known where it runs: whichever good bindings
--- stand for its type parameters and for the regions of the borrow statements that are open.
+-- What is known round a body, by the rules of typing, agrees with what is known where it runs: whichever
+-- good bindings stand for its type parameters and for the regions of the borrow statements that are open.
 pub record RoundFits (types : Types) (owner : ClosedType → Option (List ℕ)) {I K : Type 0}
     (see : View I Note (Unit {0})) (known : Callables I K) (outside : Outside) (generics : List Bounded) (given : Given)
     (Stands : Bindings → Type 0) : Type 0 where
@@ -105,8 +106,8 @@ pub record VariableStands (names : ℕ → Meaning) (number : ℕ) (scope : mean
   pub stands : (z : ℕ) → names variable.number ≡ running s z t
   pub of : variable.of ≡ Some (closed_under given t)
 
--- A running frame fits the scope at a place: the names that are in scope, the regions that are open, and the type that
--- the body returns.
+-- A running frame fits the scope at a place: the names that are in scope, the regions that are open, and
+-- the type that the body returns.
 pub record PlaceFits (types : Types) (owner : ClosedType → Option (List ℕ)) {I K : Type 0}
     (see : View I Note (Unit {0})) (known : Callables I K) (given : Given) (Stands : Bindings → Type 0)
     (result : Meaning) (active : ℕ → Bool) (number : ℕ) (sc : Scope) (scope : meaning.Scope) (s : Bindings)

@@ -1,4 +1,5 @@
-//! Good blocks run, in each frame that fits their scope. The crate holds definitions, in `specs/`, and laws about them.
+//! Good blocks run, in each frame that fits their scope. The crate holds definitions, in `specs/`, and laws
+//! about them.
 #![tactic(auto)]
 
 pub mod laws;

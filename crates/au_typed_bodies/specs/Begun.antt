@@ -43,7 +43,8 @@ kinds_given s ofs = map (running s 0) ofs
 
 module _ (types : Types) (owner : ClosedType → Option (List ℕ)) {I K : Type 0} (see : View I Note (Unit {0}))
     (known : Callables I K) (given : Given) (Stands : Bindings → Type 0) where
-  -- A body begins with its parameters, as the first names of the frame, of the running types of what is written for them.
+  -- A body begins with its parameters, as the first names of the frame, of the running types of what is
+  -- written for them.
   pub record BodyBegins (active : ℕ → Bool) (first : ℕ) (s : Bindings) (names : ℕ → Meaning) (outer : Scope)
       (params : List (Labelled Bytes)) (scope : Scope) : Type 0 where
     pub ofs : List Meaning
@@ -52,7 +53,8 @@ module _ (types : Types) (owner : ClosedType → Option (List ℕ)) {I K : Type 
         (meaning.with_parameters first (fields_given given params ofs) []) s
         (with_types first (kinds_given s ofs) names)
 
-  -- Where what is known round a body fits, and the regions of its region parameters may be used, it begins so.
+  -- Where what is known round a body fits, and the regions of its region parameters may be used, it begins
+  -- so.
   abbrev pub BodiesBegin : Type 0
   BodiesBegin =
       (outside : Outside) (generics : List (Constrained Bytes)) (header : Header Bytes) (scope : Scope)

@@ -1,6 +1,9 @@
--- What has births is shipped: the texts of such types are of shipped modules, of which the user's have no name.
-use Rattle.std.proofs.Common.{◌≡◌, ◌⊎◌, inl, inr, ℕ, suc, ◌+◌, ◌<◌, ◌==◌, Bool, true, false, not, ◌&&◌, ◌||◌, true≢false}
-use Rattle.std.proofs.Common.{List, [], ◌∷◌, ◌++◌, length, map, find, Option, None, Some, refl, sym, ap, ◌∙◌, subst, arith}
+-- What has births is shipped: the texts of such types are of shipped modules, of which the user's have no
+-- name.
+use Rattle.std.proofs.Common.{◌≡◌, ◌⊎◌, inl, inr, ℕ, suc, ◌+◌, ◌<◌, ◌==◌, Bool, true, false, not, ◌&&◌, ◌||◌}
+use Rattle.std.proofs.Common.{true≢false}
+use Rattle.std.proofs.Common.{List, [], ◌∷◌, ◌++◌, length, map, find, Option, None, Some, refl, sym, ap, ◌∙◌}
+use Rattle.std.proofs.Common.{subst, arith}
 use Rattle.std.specs.Prelude.{codes, slice_get}
 use Rattle.std.specs.List.{list_all, list_any}
 use Rattle.std.specs.Str.{bytes_eq}
@@ -19,11 +22,13 @@ use Rattle.au_types.specs.declared.headings.Head.{Head}
 use Rattle.au_types.specs.declared.types.DeclAt.{DeclAt}
 use Rattle.au_types.specs.Rows.{head_of}
 use Rattle.au_shipped.specs.Shipped.{shipped_files}
-use Rattle.au_modules.specs.Programs.{Entry, ModuleParts, first_shipped, is_interface, module_of, shipped_module}
+use Rattle.au_modules.specs.Programs.{Entry, ModuleParts, first_shipped, is_interface, module_of}
+use Rattle.au_modules.specs.Programs.{shipped_module}
 use Rattle.au_names.specs.DeclaredTypes.{DeclaredType, type_declared}
 use Rattle.au_names.specs.HeadsOf.{head_for, heads_of}
 use Rattle.au_names.specs.Owned.{declarations_in}
-use Rattle.au_names.specs.Standing.{Standing, body_at, defined_by, definition_for, definition_of, is_whole, opaque_name}
+use Rattle.au_names.specs.Standing.{Standing, body_at, defined_by, definition_for, definition_of, is_whole}
+use Rattle.au_names.specs.Standing.{opaque_name}
 use Rattle.au_names.specs.Standing.{standing_at, standing_from}
 use Rattle.au_names.proofs.AmongLemmas.{Among, contains}
 use Rattle.au_typing.specs.Trees.{NotedParts}

@@ -1,5 +1,6 @@
 -- Good expressions run, clause by clause.
-use Rattle.std.proofs.Common.{◌≡◌, ◌⊎◌, inl, inr, ℕ, Bool, true, false, true≢false, List, [], ◌∷◌, Option, None, Some, refl}
+use Rattle.std.proofs.Common.{◌≡◌, ◌⊎◌, inl, inr, ℕ, Bool, true, false, true≢false, List, [], ◌∷◌, Option}
+use Rattle.std.proofs.Common.{None, Some, refl}
 use Rattle.std.proofs.Common.{sym, ap, ◌∙◌, subst}
 use Rattle.std.proofs.lemmas.Option.{none-some, same_Some}
 use Rattle.au_base.specs.declared.kinds.IntKind.{IntKind}
@@ -11,8 +12,10 @@ use Rattle.au_syntax.specs.declared.expressions.BinaryOperator.{BinaryOperator}
 use Rattle.au_syntax.specs.declared.expressions.BinaryOperator.TheVariants as operator
 use Rattle.au_syntax.specs.declared.expressions.BorrowMode.{BorrowMode}
 use Rattle.au_syntax.specs.declared.expressions.BorrowMode.TheVariants.{Read, Write, Reborrow}
-use Rattle.au_syntax.specs.Expressions.{Node, number, negative, text, truth, nil, path, arrow, call, named_call}
-use Rattle.au_syntax.specs.Expressions.{parenthesized, dereference, borrow, borrow_part, binary, negation, typed, choice}
+use Rattle.au_syntax.specs.Expressions.{Node, number, negative, text, truth, nil, path, arrow, call}
+use Rattle.au_syntax.specs.Expressions.{named_call}
+use Rattle.au_syntax.specs.Expressions.{parenthesized, dereference, borrow, borrow_part, binary, negation}
+use Rattle.au_syntax.specs.Expressions.{typed, choice}
 use Rattle.au_syntax.specs.Expressions.{no_expressions, expressions, no_arguments, arguments}
 use Rattle.au_syntax.specs.Names.{Placed}
 use Rattle.au_syntax.specs.Plain.{Bytes}
@@ -28,10 +31,12 @@ use Rattle.au_memory.specs.Loans.{Types}
 use Rattle.au_lending.specs.Seeing.{LeadsOn}
 use Rattle.au_typing.specs.Bare.{is_arithmetic, is_bare}
 use Rattle.au_typing.specs.Calls.{by_labels, in_order}
-use Rattle.au_typing.specs.Good.{AllGood, AllGoodIn, AllGoodLabelled, ArePaired, GoodBinary, GoodBorrow, GoodPart}
+use Rattle.au_typing.specs.Good.{AllGood, AllGoodIn, AllGoodLabelled, ArePaired, GoodBinary, GoodBorrow}
+use Rattle.au_typing.specs.Good.{GoodPart}
 use Rattle.au_typing.specs.Good.{PairedModes, count_of, items_of, labels_of, shown, values_of}
 use Rattle.au_typing.specs.Lookups.{IsPart, target_behind, value_type}
-use Rattle.au_typing.specs.Notes.{Mode, Note, NotedArguments, NotedExpression, NotedExpressions, mode_of, note_of}
+use Rattle.au_typing.specs.Notes.{Mode, Note, NotedArguments, NotedExpression, NotedExpressions, mode_of}
+use Rattle.au_typing.specs.Notes.{note_of}
 use Rattle.au_typing.specs.Notes.{type_of}
 use Rattle.au_typing.specs.Rules.{is_integer, is_integer_or_truth, is_logical, meets}
 use Rattle.au_typing.specs.Scopes.{Scope}
@@ -44,15 +49,18 @@ use Rattle.au_known_types.specs.Known.{IsKnownIn, ModeIsKnownIn}
 use Rattle.au_known_types.specs.Laws.{ModesAreKnown}
 use Rattle.au_known_types.proofs.CallLemmas.{by_labels_well, call_known, in_order_well}
 use Rattle.au_known_types.proofs.KnownLemmas.{reads_parts, truth_known, writes_parts}
-use Rattle.au_known_types.proofs.NotedLemmas.{all_last, behind_known, labelled_last, part_known, type_known, value_known, variable_known}
+use Rattle.au_known_types.proofs.NotedLemmas.{all_last, behind_known, labelled_last, part_known, type_known}
+use Rattle.au_known_types.proofs.NotedLemmas.{value_known, variable_known}
 use Rattle.au_judged_types.specs.Bounds.{parameters}
 use Rattle.au_typing.specs.Lookups.{parameters_in}
-use Rattle.au_running_judgements.specs.Expressions.{AreOf, Borrows, IsEquality, IsNamed, IsOf, Joins, LooksInto, Mentions}
+use Rattle.au_running_judgements.specs.Expressions.{AreOf, Borrows, IsEquality, IsNamed, IsOf, Joins}
+use Rattle.au_running_judgements.specs.Expressions.{LooksInto, Mentions}
 use Rattle.au_running_judgements.specs.Expressions.{NamedAreOf, Reaches, Refers}
 use Rattle.au_running_judgements.specs.Known.{Callables, InScope, IsReference}
 use Rattle.au_running_judgements.specs.Uses.{IsKept}
 use Rattle.au_typed_runs.specs.Frames.{FrameFits, VariableIsThere}
-use Rattle.au_typed_runs.specs.Laws.{CallsRun, IsKeptBy, Keeps, KeepsIn, KeepsLabelled, kinds_labelled, kinds_of}
+use Rattle.au_typed_runs.specs.Laws.{CallsRun, IsKeptBy, Keeps, KeepsIn, KeepsLabelled, kinds_labelled}
+use Rattle.au_typed_runs.specs.Laws.{kinds_of}
 use Rattle.au_typed_runs.proofs.PartLemmas.{part_leads, region_scoped, value_there, variable_there}
 
 -- a type that is wanted is had

@@ -1,5 +1,5 @@
--- A frame in which a function runs fits a scope of the rules of typing: what is known of types, notes and names there is
--- what the rules say, where the function's names stand for what the frame puts for them.
+-- A frame in which a function runs fits a scope of the rules of typing: what is known of types, notes and
+-- names there is what the rules say, where the function's names stand for what the frame puts for them.
 use Rattle.std.specs.Prelude.{◌≡◌, ℕ, Bool, true, false, List, map, Some, None}
 use Rattle.au_syntax.specs.Plain.{Bytes}
 use Rattle.au_types.specs.declared.types.Region.{Region}

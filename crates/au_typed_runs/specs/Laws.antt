@@ -1,7 +1,9 @@
 -- Good expressions run, in each frame that fits their scope.
 use Rattle.std.specs.Prelude.{ℕ, Bool, List, [], ◌∷◌, Option}
-use Rattle.au_syntax.specs.Expressions.{Node, number, negative, text, truth, nil, path, arrow, call, named_call}
-use Rattle.au_syntax.specs.Expressions.{parenthesized, dereference, borrow, borrow_part, binary, negation, typed, choice}
+use Rattle.au_syntax.specs.Expressions.{Node, number, negative, text, truth, nil, path, arrow, call}
+use Rattle.au_syntax.specs.Expressions.{named_call}
+use Rattle.au_syntax.specs.Expressions.{parenthesized, dereference, borrow, borrow_part, binary, negation}
+use Rattle.au_syntax.specs.Expressions.{typed, choice}
 use Rattle.au_syntax.specs.Expressions.{no_expressions, expressions, no_arguments, arguments}
 use Rattle.au_syntax.specs.Names.{Placed}
 use Rattle.au_syntax.specs.Plain.{Bytes}
