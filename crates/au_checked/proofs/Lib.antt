@@ -1,3 +1,12 @@
+pub use Rattle.au_closing_laws.proofs.GenericsLemmas
+pub use Rattle.au_closing_laws.proofs.AcceptedLemmas
+pub use Rattle.au_closing_laws.proofs.FactLemmas
+pub use Rattle.au_closing_laws.proofs.OnceLemmas
+pub use Rattle.au_closing_laws.proofs.OwnTypeLemmas
+pub use Rattle.au_tables.proofs.FormLemmas
+pub use Rattle.au_tables.proofs.LawfulLemmas
+pub use Rattle.au_closing_laws.proofs.GatheredLemmas
 pub mod RowLemmas
 pub mod UniverseLemmas
 pub mod DefinitionLemmas
+pub mod ClosingLaws

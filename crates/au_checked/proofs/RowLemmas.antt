@@ -53,23 +53,26 @@ abbrev pub Declares : PlainDeclaration → Head → Type 0
 Declares says head = (one : DeclaredType) × (type_declared says ≡ Some one)
     × (head.params ≡ map parameter one.parameters) × (head.universe ≡ one.universe)
 
+-- a head is that of the type that a declaration of a module declares
+abbrev pub IsHead : Bytes → PlainDeclaration → Head → Type 0
+IsHead owner says head = (one : DeclaredType) × (type_declared says ≡ Some one) × (head ≡ head_for owner one)
+
+head_declares : (owner : Bytes) (says : PlainDeclaration) (head : Head) → IsHead owner says head → Declares says head
+head_declares owner says head (one, is, same) =
+    (one, is, ap (λ (h : Head). h.params) same, ap (λ (h : Head). h.universe) same)
+
 row_declares : (place : ℕ) (owner : Bytes) (d : ℕ × PlainDeclaration) (at : DeclAt) (head : Head) →
     Among (at, head) (row_of place owner d)
-    → (at ≡ record { «module» = place; decl = d.0 }) × Declares d.1 head
+    → (at ≡ record { «module» = place; decl = d.0 }) × IsHead owner d.1 head
 row_declares place owner d at head m = by (type_declared d.1) refl m
   where
     by : (o : Option DeclaredType) → type_declared d.1 ≡ o →
         Among (at, head) (row_under (record { «module» = place; decl = d.0 }) (option_map (head_for owner) o)) →
-        (at ≡ record { «module» = place; decl = d.0 }) × Declares d.1 head
+        (at ≡ record { «module» = place; decl = d.0 }) × IsHead owner d.1 head
     by None is m = absurd m
     by (Some one) is (inl here) = (
       sym (ap (λ (r : DeclAt × Head). r.0) here),
-      (
-        one,
-        is,
-        sym (ap (λ (r : DeclAt × Head). r.1.params) here),
-        sym (ap (λ (r : DeclAt × Head). r.1.universe) here),
-      ),
+      (one, is, sym (ap (λ (r : DeclAt × Head). r.1) here)),
     )
     by (Some one) is (inr later) = absurd later
 
@@ -77,8 +80,14 @@ module _ (program : List ModuleParts) where
   abbrev IsRowOf : DeclAt → Head → Type 0
   IsRowOf at head = (d : Standing) × (standing_at program at ≡ Some d) × Declares d.says head
 
+  -- a row is that of a declaration of its module
+  abbrev pub IsHeadOf : DeclAt → Head → Type 0
+  IsHeadOf at head =
+      (d : Standing) × (m : ModuleParts) × (standing_at program at ≡ Some d) × (slice_get program at.«module» ≡ Some m)
+      × IsHead m.name d.says head
+
   rows_declare : (place : ℕ) (m : ModuleParts) (at : DeclAt) (head : Head) → slice_get program place
-      ≡ Some m → Among (at, head) (rows_of place m.name (declarations_of m)) → IsRowOf at head
+      ≡ Some m → Among (at, head) (rows_of place m.name (declarations_of m)) → IsHeadOf at head
   rows_declare place m at head is among =
       let from = among-flat_map (row_of place m.name) (counting (declarations_of m)) (at, head) among in
       let row = row_declares place m.name from.0 at head from.2 in
@@ -93,8 +102,10 @@ module _ (program : List ModuleParts) where
       let number : its.0 ≡ from.0.0 = sym (zero_before its.0) ∙ sym its.1
       ∙ sym (ap (λ (x : ℕ × PlainDeclaration). x.0) same) in (
         stands.0,
+        m,
         ap (standing_at program) (row.0 ∙ ap (λ n. record { «module» = place; decl = n }) (sym number)) ∙ stands.1,
-        subst (λ says. Declares says head) (ap (λ (x : ℕ × PlainDeclaration). x.1) same ∙ sym stands.2) row.1,
+        ap (λ (a : DeclAt). slice_get program a.«module») row.0 ∙ is,
+        subst (λ says. IsHead m.name says head) (ap (λ (x : ℕ × PlainDeclaration). x.1) same ∙ sym stands.2) row.1,
       )
     where
       zero_before : (n : ℕ) → 0 + n ≡ n
@@ -102,7 +113,7 @@ module _ (program : List ModuleParts) where
 
   from_place : (place : ℕ) (ms : List ModuleParts) (at : DeclAt) (head : Head) →
       ((k : ℕ) (m : ModuleParts) → slice_get ms k ≡ Some m → slice_get program (place + k) ≡ Some m)
-      → Among (at, head) (rows_from place ms) → IsRowOf at head
+      → Among (at, head) (rows_from place ms) → IsHeadOf at head
   unfolding rows_from
   from_place place [] at head there m = absurd m
   from_place place (one ∷ ms) at head there m =
@@ -117,16 +128,21 @@ module _ (program : List ModuleParts) where
       at_zero n = omega arith
 
       by : Among (at, head) (rows_at place (Some one)) ⊎ Among (at, head) (rows_from (place + 1) ms) →
-          (Among (at, head) (rows_from (place + 1) ms) → IsRowOf at head) → IsRowOf at head
+          (Among (at, head) (rows_from (place + 1) ms) → IsHeadOf at head) → IsHeadOf at head
       by (inl here) later = rows_declare place one at head
           (subst (λ n. slice_get program n ≡ Some one) (at_zero place) (there 0 one refl)) here
       by (inr behind) later = later behind
 
   -- the row of a declared type is that of its declaration
-  pub row_stands : (at : DeclAt) (head : Head) → head_of (heads_of program) at ≡ Some head → IsRowOf at head
-  row_stands at head e =
+  pub head_stands : (at : DeclAt) (head : Head) → head_of (heads_of program) at ≡ Some head → IsHeadOf at head
+  head_stands at head e =
       from_place 0 program at head (λ k m is. subst (λ n. slice_get program n ≡ Some m) (zero_first k) is)
       (lookup_among (heads_of program) at head e)
     where
       zero_first : (n : ℕ) → n ≡ 0 + n
       zero_first n = omega arith
+
+  pub row_stands : (at : DeclAt) (head : Head) → head_of (heads_of program) at ≡ Some head → IsRowOf at head
+  row_stands at head e =
+      let its = head_stands at head e in
+      (its.0, its.2, head_declares its.1.name its.0.says head its.4)

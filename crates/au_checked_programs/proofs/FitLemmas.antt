@@ -32,15 +32,15 @@ use Rattle.au_names.specs.Standing.{standing_at, whole_name}
 use Rattle.au_imports.specs.Good.{IsGood}
 use Rattle.au_typing.specs.Called.{as_argument, as_arguments, type_itself}
 use Rattle.au_typing.specs.Trees.{NotedParts}
-use Rattle.au_outcomes.specs.Accepted.{AreAcceptedAs}
-use Rattle.au_outcomes.specs.Programs.{program_modules}
-use Rattle.au_outcomes.specs.Trees.{ReadFile}
-use Rattle.au_closing_laws.proofs.AcceptedLemmas.{accepted_whole}
-use Rattle.au_closing_laws.proofs.DefinitionLemmas.{IsThere, stands_in}
-use Rattle.au_closing_laws.proofs.FactLemmas.{parts_hold}
-use Rattle.au_closing_laws.proofs.OnceLemmas.{AreApart}
-use Rattle.au_closing_laws.proofs.OwnTypeLemmas.{own_types_are, universe_at}
-use Rattle.au_known_types.specs.Known.{IsDeclared}
+use Rattle.au_checked.specs.Accepted.{AreAcceptedAs}
+use Rattle.au_checked.specs.Programs.{program_modules}
+use Rattle.au_checked.specs.Trees.{ReadFile}
+use Rattle.au_checked.proofs.AcceptedLemmas.{accepted_whole}
+use Rattle.au_checked.proofs.ClosingLaws.DefinitionLemmas.{IsThere, stands_in}
+use Rattle.au_checked.proofs.FactLemmas.{parts_hold}
+use Rattle.au_checked.proofs.OnceLemmas.{AreApart}
+use Rattle.au_checked.proofs.OwnTypeLemmas.{own_types_are, universe_at}
+use Rattle.au_known_programs.specs.Known.{IsDeclared}
 use Rattle.au_known_programs.specs.Programs.{DeclarationsFit}
 use Rattle.au_once_fields.specs.Apart.{IsApart}
 use Rattle.au_once_fields.proofs.ApartLemmas.{fields_once}

@@ -2,9 +2,9 @@
 use Rattle.std.specs.Prelude.{ℕ, List}
 use Rattle.au_base.specs.Outside.{Files}
 use Rattle.au_modules.specs.Programs.{ModuleParts}
-use Rattle.au_outcomes.specs.Accepted.{AreAcceptedAs}
-use Rattle.au_outcomes.specs.Programs.{program_modules}
-use Rattle.au_outcomes.specs.Trees.{ReadFile}
+use Rattle.au_checked.specs.Accepted.{AreAcceptedAs}
+use Rattle.au_checked.specs.Programs.{program_modules}
+use Rattle.au_checked.specs.Trees.{ReadFile}
 use Rattle.au_typing.specs.Trees.{NotedParts}
 use Rattle.au_known_programs.specs.Programs.{DeclarationsFit}
 use Rattle.au_once_fields.specs.Apart.{IsApart}

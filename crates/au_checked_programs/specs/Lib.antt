@@ -1,1 +1,2 @@
+pub use Rattle.au_checked.specs.Checked
 pub mod Fits

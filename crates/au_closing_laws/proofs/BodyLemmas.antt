@@ -112,7 +112,7 @@ good_method outside generics name (first ∷ rest) m good e =
 
 module _ (outside_of_place : ℕ → Outside) where
   -- a body is good by what the module at its place sees
-  abbrev IsGoodBody : BodyOf → Type 0
+  abbrev pub IsGoodBody : BodyOf → Type 0
   IsGoodBody body = GoodBody (outside_of_place body.place) body.generics body.header body.block
 
   good_in : (place : ℕ) (name : Bytes) (d : NotedDeclaration) (body : BodyOf) →
@@ -138,7 +138,7 @@ module _ (outside_of_place : ℕ → Outside) where
   good_in place name (constant_body at n t v) body good e = absurd (none-some body e)
 
 module _ (outside : ℕ → Part → Outside) (noted : List NotedParts) (good : GoodModules outside 0 noted) where
-  abbrev seen_there : ℕ → Outside
+  abbrev pub seen_there : ℕ → Outside
   seen_there place = outside place Body
 
   good_noted : (place index : ℕ) (d : NotedDeclaration) → slice_get (body_at noted place) index ≡ Some d →

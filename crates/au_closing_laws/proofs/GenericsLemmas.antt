@@ -95,7 +95,7 @@ module _ (visible : List (Bytes × DeclAt)) (heads : List (DeclAt × Head)) (par
 
 -- ---- the text of a program
 
-spot_there : (place : ℕ) (part : Part) (number : ℕ) (ds : List PlainDeclaration) (index : ℕ)
+pub spot_there : (place : ℕ) (part : Part) (number : ℕ) (ds : List PlainDeclaration) (index : ℕ)
     (d : PlainDeclaration) → slice_get ds index ≡ Some d
     → (n : ℕ) × Contains (spots_from place part number ds)
     (record { at = record { «module» = place; decl = n }; part = part; says = d })
@@ -116,7 +116,7 @@ spot_there place part number (first ∷ rest) (suc index) d e =
           (record { at = record { «module» = place; decl = later.0 }; part = part; says = d }) later.1,
     )
 
-text_there : (place k : ℕ) (ms : List ModuleParts) (m : ModuleParts) (s : Spot) → slice_get ms k ≡ Some m →
+pub text_there : (place k : ℕ) (ms : List ModuleParts) (m : ModuleParts) (s : Spot) → slice_get ms k ≡ Some m →
     Contains (module_spots (place + k) m) s → Contains (text_from place ms) s
 unfolding text_from
 text_there place k [] m s e c = absurd (none-some m e)
@@ -128,7 +128,7 @@ text_there place (suc k) (first ∷ rest) m s e c =
     Contains-append_right (module_spots place first) (text_from (place + 1) rest) s
     (text_there (place + 1) k rest m s e (subst (λ n. Contains (module_spots n m) s) (omega arith) c))
 
-visible_same : (program : List ModuleParts) (place : ℕ) (part : Part) (o : Option ModuleParts) →
+pub visible_same : (program : List ModuleParts) (place : ℕ) (part : Part) (o : Option ModuleParts) →
     visible_in program place part o ≡ declared_by (seen_in Types program place part o)
 visible_same program place part None = refl
 visible_same program place part (Some m) = refl
@@ -172,13 +172,13 @@ made_promised program good place m index d is e =
 -- ---- bodies
 
 -- what a declaration says that a body is of: it has the body's type parameters, and what is written in these
-abbrev IsOf : ℕ → BodyOf → PlainDeclaration → Type 0
+abbrev pub IsOf : ℕ → BodyOf → PlainDeclaration → Type 0
 IsOf place body d =
     (body.place ≡ place) × ((w : Writing) → Contains (flat_map generic_writings body.generics) w →
     Contains (writings d) w)
     × (type_parameters d ≡ written_params body.generics)
 
-of_declared : (place : ℕ) (name : Bytes) (d : NotedDeclaration) (body : BodyOf) → body_in place name d
+pub of_declared : (place : ℕ) (name : Bytes) (d : NotedDeclaration) (body : BodyOf) → body_in place name d
     ≡ Some body → IsOf place body (erase_declaration d)
 of_declared place name (function_body at generics h block stop) body e =
     subst (λ b. IsOf place b (erase_declaration (function_body at generics h block stop)))

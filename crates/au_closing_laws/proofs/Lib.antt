@@ -4,7 +4,7 @@ mod RowLemmas
 mod SoundLemmas
 mod TableLemmas
 mod TypedCallLemmas
-mod BodyLemmas
+pub mod BodyLemmas
 mod MeantLemmas
 mod FitLemmas
 pub mod GenericsLemmas

@@ -19,9 +19,9 @@ use Rattle.au_syntax.specs.Expressions.{borrow, borrow_part, binary, negation, t
 use Rattle.au_syntax.specs.Expressions.{expressions, no_arguments, arguments}
 use Rattle.au_syntax.specs.Plain.{Bytes, PlainArguments, PlainExpression, PlainExpressions, plain_arguments}
 use Rattle.au_syntax.specs.Plain.{plain_expression, plain_expressions}
-use Rattle.au_running_judgements.specs.Uses.{IsKept, uses}
-use Rattle.au_running_lives.proofs.CountLemmas.{counts_agree}
-use Rattle.au_running_lives.specs.Counted.{AllSayFree, NamedSayFree}
+use Rattle.au_names_ahead.specs.Uses.{IsKept, uses}
+use Rattle.au_names_ahead.proofs.CountLemmas.{counts_agree}
+use Rattle.au_names_ahead.specs.Counted.{AllSayFree, NamedSayFree}
 use Rattle.au_kept_parts.specs.Kept.{IsKeptBy, Keeps, KeepsIn, KeepsNamed}
 use Rattle.au_names_ahead.specs.Lived.{SaysSorts}
 use Rattle.au_names_ahead.specs.Standing.{is_named}

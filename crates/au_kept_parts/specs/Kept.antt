@@ -10,7 +10,7 @@ use Rattle.au_syntax.specs.Expressions.{nil, path, arrow, call, named_call, pare
 use Rattle.au_syntax.specs.Expressions.{borrow, borrow_part, binary, negation, typed, choice, no_expressions}
 use Rattle.au_syntax.specs.Expressions.{expressions, no_arguments, arguments}
 use Rattle.au_syntax.specs.Plain.{Bytes}
-use Rattle.au_running_judgements.specs.Uses.{IsKept}
+use Rattle.au_names_ahead.specs.Uses.{IsKept}
 use Rattle.au_names_ahead.specs.Lived.{IsLived}
 use Rattle.au_names_ahead.specs.Parts.{EachIn}
 

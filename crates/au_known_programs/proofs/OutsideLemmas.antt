@@ -73,7 +73,7 @@ judged_from all None generics e = cc
 judged_from all (Some found) generics e = cc
 
 -- the type parameters that are meant are those that are written
-meant_parameters : (class_of : Bytes → Option DeclAt) (written : List (Constrained Bytes))
+pub meant_parameters : (class_of : Bytes → Option DeclAt) (written : List (Constrained Bytes))
     → parameters (map (with_classes class_of) written) ≡ map (λ (p : Constrained Bytes). parameter p.parameter) written
 meant_parameters class_of [] = refl
 meant_parameters class_of (p ∷ rest) = ap (λ more. parameter p.parameter ∷ more) (meant_parameters class_of rest)
@@ -123,14 +123,14 @@ module _ (program : List ModuleParts) where
     EachFormed [] = Unit {0}
     EachFormed (one ∷ rest) = IsFormed visible heads params one.of × EachFormed rest
 
-    written_formed : (fields : List (Labelled Bytes)) → AreGood (field_writings fields) → EachFormed fields
+    pub written_formed : (fields : List (Labelled Bytes)) → AreGood (field_writings fields) → EachFormed fields
     written_formed [] good = tt
     written_formed (one ∷ rest) good = (
       good (writing.a_type one.of) (Contains-first (writing.a_type one.of) (field_writings rest)),
       written_formed rest (λ w c. good w (Contains-rest (writing.a_type one.of) (field_writings rest) w c)),
     )
 
-    fields_declared : (fields : List (Labelled Bytes)) (out : List Typed) → EachFormed fields
+    pub fields_declared : (fields : List (Labelled Bytes)) (out : List Typed) → EachFormed fields
         → all_typed program d params fields ≡ Some out → EachIsDeclared heads params out
     fields_declared [] out formed e = subst (EachIsDeclared heads params) (same_Some [] out e) tt
     fields_declared (one ∷ rest) out formed e =
@@ -359,7 +359,7 @@ module _ (program : List ModuleParts) where
           (IsRegionName [] ps) (RegionThere heads params regions ps (with_arguments ps args) fitting) types_there
           regions_there t declared.1.names)
 
-      fields_known : (kinds : List Typed) → EachIsDeclared heads ps kinds
+      pub fields_known : (kinds : List Typed) → EachIsDeclared heads ps kinds
           → EachIsKnown heads params regions (map (typed_under (with_arguments ps args)) kinds)
       fields_known [] each = tt
       fields_known (x ∷ rest) each = (field_known x.of each.0, fields_known rest each.1)
@@ -373,7 +373,7 @@ module _ (program : List ModuleParts) where
         by true e = e
         by false e = absurd (none-some d e)
 
-    good_formed : (d : Standing) (ps : List Parameter) (universe : Universe) (fields : List (Labelled Bytes))
+    pub good_formed : (d : Standing) (ps : List Parameter) (universe : Universe) (fields : List (Labelled Bytes))
         → FieldsAreGood (types_at program d.place d.part) heads ps universe fields → EachFormed d ps fields
     good_formed d ps universe [] good = tt
     good_formed d ps universe (one ∷ rest) good = (good.0.0, good_formed d ps universe rest good.1)

@@ -8,14 +8,14 @@ use Rattle.au_typing.specs.Notes.{Note, NotedExpression}
 use Rattle.au_typing.specs.Trees.{NotedStatements}
 use Rattle.au_kept_parts.proofs.BodyLemmas.{parts_kept}
 use Rattle.au_lived_bodies.specs.Bodies.{BodiesAreAhead, sorts_in}
-use Rattle.au_names_ahead.specs.Lived.{IsLived, Lives, SaysSorts}
-use Rattle.au_names_ahead.specs.Parts.{EachParameter}
-use Rattle.au_names_ahead.proofs.LivedLemmas.{lives_ahead}
-use Rattle.au_names_ahead.proofs.PartLemmas.{both_in}
+use Rattle.au_new_names.specs.Lived.{IsLived, Lives, SaysSorts}
+use Rattle.au_new_names.specs.Parts.{EachParameter}
+use Rattle.au_new_names.proofs.LivedLemmas.{lives_ahead}
+use Rattle.au_new_names.proofs.PartLemmas.{both_in}
 use Rattle.au_new_names.specs.New.{IsNewIn}
 use Rattle.au_new_names.proofs.NewLemmas.{names_new}
-use Rattle.au_numbered_lives.specs.Sorts.{IsGoodOver}
-use Rattle.au_numbered_lives.proofs.NumberLemmas.{lives_numbered}
+use Rattle.au_typed_lives.specs.Sorts.{IsGoodOver}
+use Rattle.au_typed_lives.proofs.NumberLemmas.{lives_numbered}
 use Rattle.au_typed_lives.specs.Said.{types_of}
 use Rattle.au_typed_lives.proofs.SaidLemmas.{sorts_said}
 use Rattle.au_typing.specs.Bodies.{generics_in, outer_scope}

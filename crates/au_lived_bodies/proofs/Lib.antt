@@ -1,1 +1,3 @@
+pub use Rattle.au_typed_lives.proofs.NumberLemmas
+pub use Rattle.au_new_names.proofs.MarkLemmas
 pub mod BodyLemmas

@@ -17,11 +17,11 @@ use Rattle.au_syntax.specs.Types.{Labelled}
 use Rattle.au_typing.specs.Bodies.{GoodBody, generics_in, outer_scope}
 use Rattle.au_typing.specs.Notes.{Note}
 use Rattle.au_typing.specs.Scopes.{Outside}
-use Rattle.au_running_judgements.specs.Lives.{AheadAll, put_each}
+use Rattle.au_kept_parts.specs.Lives.{AheadAll, put_each}
 use Rattle.au_kept_parts.specs.Kept.{Keeps}
-use Rattle.au_names_ahead.specs.Lived.{IsLived, loose_by}
-use Rattle.au_names_ahead.specs.Parts.{EachIn}
-use Rattle.au_numbered_lives.specs.Sorts.{sorts_of}
+use Rattle.au_new_names.specs.Lived.{IsLived, loose_by}
+use Rattle.au_new_names.specs.Parts.{EachIn}
+use Rattle.au_typed_lives.specs.Sorts.{sorts_of}
 use Rattle.au_typed_lives.specs.Said.{TellsFree, types_of}
 
 -- A function has a body that is good by the rules of typing, over what is outside of it, its type parameters
@@ -38,11 +38,12 @@ pub record IsGoodFunction {I : Type 0} (f : Function I Note (Unit {0})) (outside
   pub foreign : Kind → Bytes → Bool
   pub before : List Mark
   pub new : AreNew foreign before
-      (map (labelled_mark Values) header.parameters ++ block_marks (plain_statements (λ (b : Bytes). b) f.body))
+      (map (labelled_mark Values) header.parameters
+      ++ block_marks (plain_statements (λ (b : Bytes). b) f.body))
 
 -- what its variables ask, by number
-abbrev pub sorts_in : {I : Type 0} → Function I Note (Unit {0}) → Outside → List (Constrained Bytes) → Header Bytes
-    → ℕ → Sort
+abbrev pub sorts_in : {I : Type 0} → Function I Note (Unit {0}) → Outside → List (Constrained Bytes)
+    → Header Bytes → ℕ → Sort
 sorts_in f outside generics header =
     sorts_of f header.parameters (types_of (outer_scope outside (generics_in outside generics)))
 
@@ -53,7 +54,7 @@ BodiesAreAhead f =
     (outside : Outside) (generics : List (Constrained Bytes)) (header : Header Bytes)
     → IsGoodFunction f outside generics header
     → IsLived (sorts_in f outside generics header) f
-    × AheadAll f.view (loose_by (sorts_in f outside generics header)) (f.first + length f.parameters) (scope_of f) []
-    f.body (λ h. ⊥) (put_each f.first (length f.parameters) ready (λ k. empty))
+    × AheadAll f.view (loose_by (sorts_in f outside generics header)) (f.first + length f.parameters)
+    (scope_of f) [] f.body (λ h. ⊥) (put_each f.first (length f.parameters) ready (λ k. empty))
     × EachIn f.view (λ scope e. Keeps f.view scope e) (λ number scope x block. Unit {0})
     (f.first + length f.parameters) (scope_of f) f.body

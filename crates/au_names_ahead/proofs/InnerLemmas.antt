@@ -9,8 +9,8 @@ use Rattle.au_meaning.specs.Names.{Scope, names_in_block}
 use Rattle.au_meaning.specs.Views.{View}
 use Rattle.au_syntax.specs.Plain.{Bytes, plain_statements}
 use Rattle.au_syntax.specs.Statements.{Statements}
-use Rattle.au_running_judgements.specs.Lives as run
-use Rattle.au_running_judgements.specs.Lives.{Over, Standing}
+use Rattle.au_running_lives.specs.Lives as run
+use Rattle.au_running_lives.specs.Lives.{Over, Standing}
 use Rattle.au_names_ahead.specs.Lived.{loose_by}
 use Rattle.au_names_ahead.specs.Standing.{hold_of, is_named, left, standing}
 use Rattle.au_names_ahead.proofs.BornLemmas.{Grows}

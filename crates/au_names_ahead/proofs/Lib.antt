@@ -1,3 +1,4 @@
+pub use Rattle.au_running_lives.proofs.CountLemmas
 pub mod VerdictLemmas
 pub mod ScopeLemmas
 pub mod UseLemmas

@@ -10,8 +10,8 @@ use Rattle.au_meaning.specs.Names.{Scope, with_name, with_parameters}
 use Rattle.au_meaning.specs.Views.{Field, Function, View}
 use Rattle.au_syntax.specs.Plain.{Bytes, plain_statements}
 use Rattle.au_syntax.specs.Statements.{Statements}
-use Rattle.au_running_judgements.specs.Lives as run
-use Rattle.au_running_judgements.specs.Lives.{Standing, put, put_each}
+use Rattle.au_running_lives.specs.Lives as run
+use Rattle.au_running_lives.specs.Lives.{Standing, put, put_each}
 use Rattle.au_names_ahead.specs.Lived.{Lives, LivesAreAhead, SaysSorts, loose_by}
 use Rattle.au_names_ahead.specs.Parts.{EachParameter}
 use Rattle.au_names_ahead.specs.Standing.{standing}

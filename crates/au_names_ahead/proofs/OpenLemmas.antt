@@ -18,8 +18,8 @@ use Rattle.au_syntax.specs.declared.expressions.BorrowMode.TheVariants as mode
 use Rattle.au_syntax.specs.declared.types.Access.{Access}
 use Rattle.au_syntax.specs.declared.types.Access.TheVariants as access
 use Rattle.au_syntax.specs.Plain.{Bytes}
-use Rattle.au_running_judgements.specs.Lives.{AreReady, IsNew, freed_each, lending, lent_for, stand}
-use Rattle.au_running_judgements.specs.Uses.{where_of}
+use Rattle.au_running_lives.specs.Lives.{AreReady, IsNew, freed_each, lending, lent_for, stand}
+use Rattle.au_running_lives.specs.Uses.{where_of}
 use Rattle.au_names_ahead.specs.Standing.{hold_of, is_named, left, standing}
 use Rattle.au_names_ahead.proofs.ScopeLemmas.{Numbered, apart, named, unnamed}
 use Rattle.au_names_ahead.proofs.StepLemmas.{Well}

@@ -15,8 +15,8 @@ use Rattle.au_syntax.specs.Statements.{assign, assign_through, conditional, cond
 use Rattle.au_syntax.specs.Statements.{while_loop, for_loop, borrow_in, borrow_typed, discard, return_of}
 use Rattle.au_syntax.specs.Statements.{no_statements, statements, no_branches, branches, no_arms, arms}
 use Rattle.au_typing.specs.Returns.{arms_return, block_returns, branches_return, returns}
-use Rattle.au_running_judgements.specs.Lives.{Ahead, AheadAll, AheadArms, AheadTests, Over, Standing}
-use Rattle.au_running_judgements.specs.Lives.{put_each}
+use Rattle.au_running_lives.specs.Lives.{Ahead, AheadAll, AheadArms, AheadTests, Over, Standing}
+use Rattle.au_running_lives.specs.Lives.{put_each}
 
 module _ {I T C : Type 0} (see : View I T C) (loose : ℕ → Bool) where
   -- what holds where a block ends

@@ -14,7 +14,7 @@ use Rattle.au_meaning.specs.Names.{Scope, Variable, bound_name, field_of, variab
 use Rattle.au_meaning.specs.Views.{Field, View}
 use Rattle.au_syntax.specs.Plain.{Bytes}
 use Rattle.au_syntax.specs.Types.{Bound}
-use Rattle.au_running_judgements.specs.Lives.{IsOver, Over, Standing, put, put_each}
+use Rattle.au_running_lives.specs.Lives.{IsOver, Over, Standing, put, put_each}
 use Rattle.au_names_ahead.specs.Lived.{loose_by, may_drop}
 use Rattle.au_names_ahead.specs.Standing.{is_named, left, standing}
 use Rattle.au_names_ahead.proofs.ScopeLemmas.{Extends, Holds, Numbered, at_number, beyond_named, named}

@@ -14,9 +14,9 @@ use Rattle.au_meaning.specs.Names.{Scope, Variable, variable_of}
 use Rattle.au_meaning.specs.Views.{View}
 use Rattle.au_syntax.specs.Expressions.{Expression}
 use Rattle.au_syntax.specs.Plain.{Bytes, plain_expression}
-use Rattle.au_running_judgements.specs.Lives.{AreReady, Standing, Steps, after_whole, freed_each, spent}
-use Rattle.au_running_judgements.specs.Lives.{stand}
-use Rattle.au_running_judgements.specs.Uses.{uses, where_of}
+use Rattle.au_running_lives.specs.Lives.{AreReady, Standing, Steps, after_whole, freed_each, spent}
+use Rattle.au_running_lives.specs.Lives.{stand}
+use Rattle.au_running_lives.specs.Uses.{uses, where_of}
 use Rattle.au_running_lives.proofs.CountLemmas.{counts_agree, met}
 use Rattle.au_names_ahead.specs.Lived.{SaysSorts}
 use Rattle.au_names_ahead.specs.Standing.{hold_of, is_named, left, standing}

@@ -11,7 +11,7 @@ use Rattle.au_syntax.specs.Expressions.{nil, path, arrow, call, named_call, pare
 use Rattle.au_syntax.specs.Expressions.{borrow, borrow_part, binary, negation, typed, choice, no_expressions}
 use Rattle.au_syntax.specs.Expressions.{expressions, no_arguments, arguments}
 use Rattle.au_syntax.specs.Plain.{Bytes}
-use Rattle.au_running_judgements.specs.Uses.{behind, mentioned, uses, uses_all, uses_named, where_of}
+use Rattle.au_running_lives.specs.Uses.{behind, mentioned, uses, uses_all, uses_named, where_of}
 use Rattle.au_names_ahead.specs.Standing.{is_named}
 use Rattle.au_names_ahead.proofs.ScopeLemmas.{unnamed}
 

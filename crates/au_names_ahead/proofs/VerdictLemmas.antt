@@ -14,7 +14,7 @@ use Rattle.au_lives.specs.Lives.{is_untouched}
 use Rattle.au_lives.specs.Lives.{unless_hidden, verdict}
 use Rattle.au_lives.specs.Mentions.{Counts}
 use Rattle.au_memory.specs.Forests.{Hold, empty, ready, shut, watched}
-use Rattle.au_running_judgements.specs.Lives.{spent, stand}
+use Rattle.au_running_lives.specs.Lives.{spent, stand}
 use Rattle.au_names_ahead.specs.Standing.{hold_of, left}
 
 -- whether a variable is consumed behind a step that meets it so

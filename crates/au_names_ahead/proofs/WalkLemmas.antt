@@ -31,11 +31,11 @@ use Rattle.au_syntax.specs.Statements.{assign, assign_through, conditional, cond
 use Rattle.au_syntax.specs.Statements.{while_loop, for_loop, borrow_in, borrow_typed, discard, return_of}
 use Rattle.au_syntax.specs.Statements.{no_statements, statements, no_branches, branches, no_arms, arms}
 use Rattle.au_syntax.specs.Types.{Bound}
-use Rattle.au_running_judgements.specs.Lives as run
-use Rattle.au_running_judgements.specs.Lives.{AreReady, IsNew, IsOver, Opens, Over, Standing, Steps}
-use Rattle.au_running_judgements.specs.Lives.{freed_each, lending}
-use Rattle.au_running_judgements.specs.Lives.{put, put_each}
-use Rattle.au_running_judgements.specs.Uses.{IsKept, where_of}
+use Rattle.au_running_lives.specs.Lives as run
+use Rattle.au_running_lives.specs.Lives.{AreReady, IsNew, IsOver, Opens, Over, Standing, Steps}
+use Rattle.au_running_lives.specs.Lives.{freed_each, lending}
+use Rattle.au_running_lives.specs.Lives.{put, put_each}
+use Rattle.au_running_lives.specs.Uses.{IsKept, where_of}
 use Rattle.au_names_ahead.specs.Lived.{Lives, SaysSorts, loose_by, may_drop}
 use Rattle.au_names_ahead.specs.Parts.{Each, EachArm, EachBound, EachIn, EachTest}
 use Rattle.au_names_ahead.specs.Standing.{hold_of, is_named, left, standing}

@@ -11,7 +11,7 @@ use Rattle.au_syntax.specs.Expressions.{Expression}
 use Rattle.au_syntax.specs.Plain.{Bytes, plain_statements}
 use Rattle.au_syntax.specs.Statements.{Statements}
 use Rattle.au_typing.specs.Returns.{block_returns}
-use Rattle.au_running_judgements.specs.Lives.{AheadAll, put_each}
+use Rattle.au_running_lives.specs.Lives.{AheadAll, put_each}
 use Rattle.au_running_lives.specs.Counted.{SaysFree}
 use Rattle.au_names_ahead.specs.Parts.{EachIn, EachParameter}
 

@@ -4,7 +4,7 @@ use Rattle.std.specs.Prelude.{ℕ, ◌==◌, Bool, true, false, [], ◌∷◌, i
 use Rattle.au_lives.specs.Lives as life
 use Rattle.au_memory.specs.Forests.{Hold, empty, ready, shut, watched}
 use Rattle.au_meaning.specs.Names.{Scope}
-use Rattle.au_running_judgements.specs.Lives.{Standing}
+use Rattle.au_running_lives.specs.Lives.{Standing}
 
 -- How the borrow statements on a variable hold it, by how its name stands where it isn't consumed. An empty
 -- name may be met as little as one that is lent to write.

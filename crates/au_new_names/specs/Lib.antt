@@ -1,1 +1,3 @@
+pub use Rattle.au_names_ahead.specs.Lived
+pub use Rattle.au_names_ahead.specs.Parts
 pub mod New

@@ -1,1 +1,2 @@
+pub use Rattle.au_names_ahead.proofs.StandLemmas
 pub mod NumberLemmas

@@ -1,1 +1,2 @@
+pub use Rattle.au_safe_steps.specs.Orders
 pub mod Apart

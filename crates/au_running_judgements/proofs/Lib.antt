@@ -1,3 +1,7 @@
+pub use Rattle.au_safe_steps.proofs.BeginningLemmas
+pub use Rattle.au_safe_steps.proofs.ComingLemmas
+pub use Rattle.au_safe_steps.proofs.FillingLemmas
+pub use Rattle.au_safe_steps.proofs.NamedLemmas
 pub use Rattle.au_safe_steps.proofs.StartLemmas
 pub use Rattle.au_safe_steps.proofs.BoxLemmas
 pub use Rattle.au_safe_steps.proofs.BufferLemmas

@@ -1,1 +1,3 @@
+pub use Rattle.au_running_judgements.specs.Lives
+pub use Rattle.au_running_judgements.specs.Uses
 pub mod Counted

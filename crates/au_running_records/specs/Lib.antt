@@ -1,1 +1,2 @@
+pub use Rattle.au_tables.specs.Tables
 pub mod Records

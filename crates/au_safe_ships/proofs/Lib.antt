@@ -1,3 +1,7 @@
+pub use Rattle.au_running_judgements.proofs.BeginningLemmas
+pub use Rattle.au_running_judgements.proofs.ComingLemmas
+pub use Rattle.au_running_judgements.proofs.FillingLemmas
+pub use Rattle.au_running_judgements.proofs.ReachingLemmas
 pub use Rattle.au_running_judgements.proofs.BehindLemmas
 pub use Rattle.au_running_judgements.proofs.CloseLemmas
 pub use Rattle.au_running_judgements.proofs.EnterLemmas
@@ -9,3 +13,4 @@ pub use Rattle.au_running_judgements.proofs.TellLemmas
 pub mod OperatedLemmas
 pub mod NamedLemmas
 pub mod ShippedLemmas
+pub mod SafeSteps

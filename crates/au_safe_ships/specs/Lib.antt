@@ -1,3 +1,4 @@
+pub use Rattle.au_running_judgements.specs.Beginning
 pub use Rattle.au_borrows.specs.Orders
 pub use Rattle.au_running_judgements.specs.Frames
 pub use Rattle.au_running_judgements.specs.Sound

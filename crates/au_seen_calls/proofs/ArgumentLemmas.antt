@@ -29,15 +29,15 @@ use Rattle.au_typing.proofs.Arguments.{labelled_fits, positional_fits}
 use Rattle.au_meaning.specs.Expressions.{labels}
 use Rattle.au_meaning.specs.Names as meaning
 use Rattle.au_meaning.specs.Views.{View}
-use Rattle.au_known_types.specs.Known.{ScopeIsKnown}
-use Rattle.au_known_types.proofs.CallLemmas.{by_labels_well, call_known, in_order_well}
-use Rattle.au_known_types.proofs.NotedLemmas.{all_last, labelled_last}
+use Rattle.au_typed_blocks.specs.KnownTypes.Known.{ScopeIsKnown}
+use Rattle.au_typed_blocks.proofs.CallLemmas.{by_labels_well, call_known, in_order_well}
+use Rattle.au_typed_blocks.proofs.NotedLemmas.{all_last, labelled_last}
 use Rattle.au_judged_types.specs.Bounds.{parameters}
-use Rattle.au_safe_steps.specs.Orders.{AreApart, IsNone, IsReordered}
-use Rattle.au_running_judgements.specs.Expressions.{AreOf, IsOf, NamedAreOf}
-use Rattle.au_running_judgements.specs.Known.{Callables}
-use Rattle.au_running_judgements.specs.Picking.{AreTypesUnder, IsTypeUnder}
-use Rattle.au_typed_runs.specs.Laws.{CallsRun, kinds_labelled, kinds_of}
+use Rattle.au_typed_blocks.specs.Orders.{AreApart, IsNone, IsReordered}
+use Rattle.au_typed_blocks.specs.Expressions.{AreOf, IsOf, NamedAreOf}
+use Rattle.au_typed_blocks.specs.Known.{Callables}
+use Rattle.au_typed_blocks.specs.Picking.{AreTypesUnder, IsTypeUnder}
+use Rattle.au_typed_blocks.specs.TypedRuns.Laws.{CallsRun, kinds_labelled, kinds_of}
 use Rattle.au_typed_blocks.specs.Rounds.{names_of}
 use Rattle.au_typed_blocks.proofs.OnceLemmas.{In, found_apart, once_reordered, self_is}
 use Rattle.au_seen_calls.specs.Sights.{CallIsSeen, CallsAreSeen, kinds_taken}

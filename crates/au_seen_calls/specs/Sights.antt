@@ -13,12 +13,12 @@ use Rattle.au_typing.specs.Notes.{Note}
 use Rattle.au_typing.specs.Scopes.{Callable, Scope, Typed}
 use Rattle.au_meaning.specs.Names as meaning
 use Rattle.au_meaning.specs.Views.{Callee, View}
-use Rattle.au_known_types.specs.Known.{ModeIsKnownIn, ScopeIsKnown}
-use Rattle.au_known_types.specs.Laws.{CallIsKnown}
-use Rattle.au_safe_steps.specs.Orders.{AreApart}
-use Rattle.au_running_judgements.specs.Expressions.{Performs}
-use Rattle.au_running_judgements.specs.Known.{Callables}
-use Rattle.au_typed_runs.specs.Laws.{CallsRun}
+use Rattle.au_typed_blocks.specs.KnownTypes.Known.{ModeIsKnownIn, ScopeIsKnown}
+use Rattle.au_typed_blocks.specs.KnownTypes.Laws.{CallIsKnown}
+use Rattle.au_typed_blocks.specs.Orders.{AreApart}
+use Rattle.au_typed_blocks.specs.Expressions.{Performs}
+use Rattle.au_typed_blocks.specs.Known.{Callables}
+use Rattle.au_typed_blocks.specs.TypedRuns.Laws.{CallsRun}
 use Rattle.au_typed_blocks.specs.Rounds.{names_of}
 
 -- The running types of parameters for the caller, which has these bindings and is in the whole expression of this token:

@@ -10,7 +10,7 @@ ghost use Rattle.au_typing.specs.Notes.{Note};
 ghost use Rattle.au_typing.specs.Scopes.{Scope};
 ghost use Rattle.au_meaning.specs.Names as meaning;
 ghost use Rattle.au_meaning.specs.Views.{View};
-ghost use Rattle.au_running_judgements.specs.Known.{Callables};
+ghost use Rattle.au_typed_blocks.specs.Known.{Callables};
 ghost use Rattle.au_seen_calls.specs.Sights.{SeenCallsRun};
 
 /// Good calls run where their arguments do, in the order of parameters and by labels, if the meaning sees what they call.

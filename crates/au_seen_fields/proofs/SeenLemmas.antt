@@ -25,18 +25,18 @@ use Rattle.au_typing.specs.Insides.{case_target, case_under, cases_defined, case
 use Rattle.au_typing.specs.Insides.{fields_under, known_definition, record_fields, typed_under, union_cases, with_arguments}
 use Rattle.au_typing.specs.Scopes.{Case, Typed}
 use Rattle.au_typing.specs.Written.{all_typed, meant_in, typed, types_at}
-use Rattle.au_closed_trees.specs.Parts as parts
-use Rattle.au_closed_trees.specs.Parts.{ClosedCase, ClosedField}
-use Rattle.au_closed_trees.specs.TypeNames.{listed}
-use Rattle.au_tables.specs.Tables.{DefinitionsFit, cases_written, defined_fields, field_types, fields_in}
-use Rattle.au_tables.proofs.LawfulLemmas.{followed_is}
-use Rattle.au_tables.proofs.RunLemmas.{fields_running}
+use Rattle.au_closed_tables.specs.Parts as parts
+use Rattle.au_closed_tables.specs.Parts.{ClosedCase, ClosedField}
+use Rattle.au_closed_tables.specs.TypeNames.{listed}
+use Rattle.au_running_records.specs.Tables.{DefinitionsFit, cases_written, defined_fields, field_types, fields_in}
+use Rattle.au_running_records.proofs.LawfulLemmas.{followed_is}
+use Rattle.au_running_records.proofs.RunLemmas.{fields_running}
 use Rattle.au_closed_tables.specs.Closing.{AreClosed}
 use Rattle.au_closed_tables.proofs.CloseLemmas.{fields_closed}
 use Rattle.au_closed_meanings.specs.Generic as meaning
 use Rattle.au_closed_meanings.specs.Generic.{case_seen, field_seen}
 use Rattle.au_closed_meanings.specs.Programs.{fields_at}
-use Rattle.au_known_types.specs.Known.{EachIsKnown, IsKnown}
+use Rattle.au_standing_types.specs.Known.{EachIsKnown, IsKnown}
 use Rattle.au_standing_types.specs.Standing.{StandsFor}
 use Rattle.au_standing_types.proofs.StandLemmas.{known_closes}
 use Rattle.au_running_records.proofs.RecordLemmas.{known_defined}
@@ -248,7 +248,7 @@ module _ (program : List ModuleParts) (fit : DefinitionsFit program) (params : L
       on (x, others, first, its, whole) (suc n) is later =
           later others its n (ap (λ l. slice_get l (suc n)) whole ∙ is)
 
-  union_case : (d : Standing) (args : Arguments) (says : PlainDeclaration) → d.says ≡ says → (all : List Case)
+  pub union_case : (d : Standing) (args : Arguments) (says : PlainDeclaration) → d.says ≡ says → (all : List Case)
       → union_cases program d args says ≡ Some all → (tag : ℕ) (one : Case) → slice_get all tag ≡ Some one
       → (written : List (Labelled Bytes)) × (slice_get (cases_written d.says) tag ≡ Some written)
       × (fields_under program d (type_parameters d.says) args written ≡ Some one.fields)

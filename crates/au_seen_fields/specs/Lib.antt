@@ -1,1 +1,14 @@
+pub use Rattle.au_closing.specs.Bodies
+pub use Rattle.au_closed_tables.specs.ClosedNotes
+pub use Rattle.au_closed_tables.specs.Closing
+pub use Rattle.au_closed_meanings.specs.Surroundings
+pub use Rattle.au_standing_types.specs.Known
+pub use Rattle.au_closed_tables.specs.Parts
+pub use Rattle.au_closed_tables.specs.TypeNames
+pub use Rattle.au_running_records.specs.Tables
+pub use Rattle.au_closing.specs.Instances
+pub use Rattle.au_closing.specs.Leading
+pub use Rattle.au_standing_types.specs.Standing
+pub use Rattle.au_closed_meanings.specs.Generic
+pub use Rattle.au_closed_meanings.specs.Programs
 pub mod Seen

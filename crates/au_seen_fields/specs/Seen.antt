@@ -9,10 +9,10 @@ use Rattle.au_modules.specs.Programs.{ModuleParts}
 use Rattle.au_names.specs.HeadsOf.{heads_of}
 use Rattle.au_typing.specs.Insides.{cases_of, fields_of}
 use Rattle.au_typing.specs.Scopes.{Case, Typed}
-use Rattle.au_tables.specs.Tables.{DefinitionsFit}
+use Rattle.au_running_records.specs.Tables.{DefinitionsFit}
 use Rattle.au_meaning.specs.Views.{Field}
 use Rattle.au_closed_meanings.specs.Generic.{fields_in}
-use Rattle.au_known_types.specs.Known.{EachIsKnown, IsKnown}
+use Rattle.au_standing_types.specs.Known.{EachIsKnown, IsKnown}
 use Rattle.au_standing_types.specs.Standing.{StandsFor}
 
 -- a field with its closed type

@@ -49,12 +49,12 @@ use Rattle.au_names.specs.HeadsOf.{heads_of}
 use Rattle.au_names.specs.Standing.{Standing, definition_of, opaque_name, standing_at, whole_name}
 use Rattle.au_promises.specs.Mentions.{type_parameters}
 use Rattle.au_classes.specs.Rows.{rows_of}
-use Rattle.au_closing.specs.Instances.{Instance}
-use Rattle.au_closing.specs.Leading.{a_maker, call_leads, called_leads, called_of, called_standing, module_name, target_leads}
-use Rattle.au_closed_trees.specs.ClosedNotes.{constructor}
-use Rattle.au_closed_trees.specs.Parts as parts
-use Rattle.au_closed_trees.specs.Parts.{ClosedCase, ClosedField}
-use Rattle.au_closed_trees.specs.TypeNames.{listed}
+use Rattle.au_seen_fields.specs.Instances.{Instance}
+use Rattle.au_seen_fields.specs.Leading.{a_maker, call_leads, called_leads, called_of, called_standing, module_name, target_leads}
+use Rattle.au_seen_fields.specs.ClosedNotes.{constructor}
+use Rattle.au_seen_fields.specs.Parts as parts
+use Rattle.au_seen_fields.specs.Parts.{ClosedCase, ClosedField}
+use Rattle.au_seen_fields.specs.TypeNames.{listed}
 use Rattle.au_typing.specs.Called.{as_argument, as_arguments, case_called, declared_callable, is_case, type_number}
 use Rattle.au_typing.specs.Insides.{fields_under, typed_under, with_arguments}
 use Rattle.au_typing.specs.Notes.{Note}
@@ -63,24 +63,24 @@ use Rattle.au_typing.specs.Trees.{NotedParts}
 use Rattle.au_typing.specs.Written.{all_typed, seen_at, types_at}
 use Rattle.au_typing.proofs.MakerLemmas.{Makes, made}
 use Rattle.au_typing.proofs.OfferedLemmas.{defines_in_body, hidden_elsewhere}
-use Rattle.au_tables.specs.Tables.{DefinitionsFit, cases_written, defined_fields, field_types, fields_in, types_of}
-use Rattle.au_tables.proofs.RunLemmas.{fields_running, written_fixed}
-use Rattle.au_closed_tables.specs.Closing.{AreClosed}
-use Rattle.au_closed_tables.proofs.CloseLemmas.{fields_closed}
-use Rattle.au_closed_meanings.specs.Generic as meaning
-use Rattle.au_closed_meanings.specs.Generic.{case_seen, field_seen, lead_does, view_under, with_names}
-use Rattle.au_closed_meanings.specs.Surroundings.{field_names}
+use Rattle.au_seen_fields.specs.Tables.{DefinitionsFit, cases_written, defined_fields, field_types, fields_in, types_of}
+use Rattle.au_seen_fields.proofs.RunLemmas.{fields_running, written_fixed}
+use Rattle.au_seen_fields.specs.Closing.{AreClosed}
+use Rattle.au_seen_fields.proofs.CloseLemmas.{fields_closed}
+use Rattle.au_seen_fields.specs.Generic as meaning
+use Rattle.au_seen_fields.specs.Generic.{case_seen, field_seen, lead_does, view_under, with_names}
+use Rattle.au_seen_fields.specs.Surroundings.{field_names}
 use Rattle.au_meaning.specs.Views.{Callee, makes}
-use Rattle.au_known_types.specs.Known.{EachIsDeclared, IsKnown}
-use Rattle.au_safe_steps.specs.Orders.{AreApart}
+use Rattle.au_seen_fields.specs.Known.{EachIsDeclared, IsKnown}
+use Rattle.au_once_fields.specs.Orders.{AreApart}
 use Rattle.au_owners.specs.Owners.{owner_by, owner_declared, owner_of}
-use Rattle.au_running_judgements.specs.Expressions.{Bears}
-use Rattle.au_running_judgements.specs.Known.{Callables as Keys}
-use Rattle.au_standing_types.specs.Standing.{StandsFor}
-use Rattle.au_standing_types.proofs.StandLemmas.{known_closes}
+use Rattle.au_seen_calls.specs.Expressions.{Bears}
+use Rattle.au_seen_calls.specs.Known.{Callables as Keys}
+use Rattle.au_seen_fields.specs.Standing.{StandsFor}
+use Rattle.au_seen_fields.proofs.StandLemmas.{known_closes}
 use Rattle.au_once_fields.specs.Apart.{EachCaseIsApart, IsApart, labels}
 use Rattle.au_seen_fields.proofs.SeenLemmas.{at_case, declared_names, names_closed, under_names}
-use Rattle.au_typed_blocks.specs.Rounds.{names_of}
+use Rattle.au_seen_calls.specs.Rounds.{names_of}
 use Rattle.au_seen_calls.specs.Sights.{CallIsSeen, kinds_taken}
 use Rattle.au_seen_makers.specs.Makers.{DefinitionsAreApart, OwnTypesAreDefined}
 

@@ -16,17 +16,17 @@ use Rattle.au_modules.specs.Programs.{ModuleParts}
 use Rattle.au_names.specs.declared.targets.Target.{Target}
 use Rattle.au_names.specs.HeadsOf.{heads_of}
 use Rattle.au_names.specs.Standing.{Standing, definition_of, standing_at, whole_name}
-use Rattle.au_closing.specs.Instances.{Instance}
+use Rattle.au_seen_fields.specs.Instances.{Instance}
 use Rattle.au_typing.specs.Called.{declared_callable, type_number}
 use Rattle.au_typing.specs.Notes.{Note}
 use Rattle.au_typing.specs.Scopes.{Callable}
 use Rattle.au_typing.specs.Trees.{NotedParts}
 use Rattle.au_typing.specs.Written.{seen_at}
-use Rattle.au_tables.specs.Tables.{types_of}
-use Rattle.au_closed_meanings.specs.Generic.{view_under}
-use Rattle.au_known_types.specs.Known.{EachIsDeclared, IsKnown}
+use Rattle.au_seen_fields.specs.Tables.{types_of}
+use Rattle.au_seen_fields.specs.Generic.{view_under}
+use Rattle.au_seen_fields.specs.Known.{EachIsDeclared, IsKnown}
 use Rattle.au_owners.specs.Owners.{owner_of}
-use Rattle.au_running_judgements.specs.Known.{Callables as Keys}
+use Rattle.au_seen_calls.specs.Known.{Callables as Keys}
 use Rattle.au_once_fields.specs.Apart.{IsApart}
 use Rattle.au_seen_calls.specs.Sights.{CallIsSeen}
 

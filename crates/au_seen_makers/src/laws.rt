@@ -7,11 +7,11 @@ ghost use Rattle.au_matching.specs.Bindings.{Bindings};
 ghost use Rattle.au_type_texts.specs.Given.{Given};
 ghost use Rattle.au_modules.specs.Programs.{ModuleParts};
 ghost use Rattle.au_names.specs.HeadsOf.{heads_of};
-ghost use Rattle.au_closing.specs.Instances.{Instance as InstanceSeen};
+ghost use Rattle.au_seen_fields.specs.Instances.{Instance as InstanceSeen};
 ghost use Rattle.au_typing.specs.Trees.{NotedParts};
-ghost use Rattle.au_tables.specs.Tables.{DefinitionsFit};
-ghost use Rattle.au_running_judgements.specs.Known.{Callables as Keys};
-ghost use Rattle.au_standing_types.specs.Standing.{StandsFor};
+ghost use Rattle.au_seen_fields.specs.Tables.{DefinitionsFit};
+ghost use Rattle.au_seen_calls.specs.Known.{Callables as Keys};
+ghost use Rattle.au_seen_fields.specs.Standing.{StandsFor};
 ghost use Rattle.au_seen_makers.specs.Makers.{DefinitionsAreApart, MakersAreSeen, OwnTypesAreDefined};
 
 /// A call of a name that means a record, or a case of a union, is seen to make a value of it.

@@ -32,7 +32,7 @@ use Rattle.au_names.specs.HeadsOf.{heads_of}
 use Rattle.au_names.specs.Standing.{Standing, definition_of, standing_at}
 use Rattle.au_promises.specs.Mentions.{type_parameters}
 use Rattle.au_formed.specs.Good.{HasCase}
-use Rattle.au_closing.specs.Leading.{case_name, declared_name}
+use Rattle.au_seen_fields.specs.Leading.{case_name, declared_name}
 use Rattle.au_typing.specs.Insides.{case_target, case_under, cases_defined, cases_of, cases_under, fields_defined, fields_of}
 use Rattle.au_typing.specs.Insides.{fields_under, known_definition, record_fields, union_cases}
 use Rattle.au_typing.specs.Outsides.{outside_of}
@@ -40,22 +40,22 @@ use Rattle.au_typing.specs.Parts.{case_meant}
 use Rattle.au_typing.specs.Scopes.{Case, Typed}
 use Rattle.au_typing.specs.Trees.{NotedParts}
 use Rattle.au_typing.specs.Written.{seen_at, types_at}
-use Rattle.au_closed_trees.specs.Parts as parts
-use Rattle.au_closed_trees.specs.Parts.{ClosedCase}
-use Rattle.au_closed_trees.specs.TypeNames.{listed}
-use Rattle.au_tables.specs.Tables.{DefinitionsFit, case_fields, cases_written, defined_fields, field_types, fields_in}
-use Rattle.au_tables.specs.Tables.{is_well_formed, types_of}
-use Rattle.au_tables.proofs.LawfulLemmas.{followed_is}
-use Rattle.au_closed_meanings.specs.Generic as meaning
-use Rattle.au_closed_meanings.specs.Generic.{case_seen, view_under}
-use Rattle.au_closed_meanings.specs.Programs as seen
-use Rattle.au_known_types.specs.Known.{EachIsKnown, IsKnown}
-use Rattle.au_safe_steps.specs.Orders.{AreApart, IsNone}
-use Rattle.au_standing_types.specs.Standing.{StandsFor}
+use Rattle.au_seen_fields.specs.Parts as parts
+use Rattle.au_seen_fields.specs.Parts.{ClosedCase}
+use Rattle.au_seen_fields.specs.TypeNames.{listed}
+use Rattle.au_seen_fields.specs.Tables.{DefinitionsFit, case_fields, cases_written, defined_fields, field_types, fields_in}
+use Rattle.au_seen_fields.specs.Tables.{is_well_formed, types_of}
+use Rattle.au_seen_fields.proofs.LawfulLemmas.{followed_is}
+use Rattle.au_seen_fields.specs.Generic as meaning
+use Rattle.au_seen_fields.specs.Generic.{case_seen, view_under}
+use Rattle.au_seen_fields.specs.Programs as seen
+use Rattle.au_seen_fields.specs.Known.{EachIsKnown, IsKnown}
+use Rattle.au_once_fields.specs.Orders.{AreApart, IsNone}
+use Rattle.au_seen_fields.specs.Standing.{StandsFor}
 use Rattle.au_once_fields.specs.Apart.{EachCaseIsApart, IsApart, case_names, labels}
-use Rattle.au_running_records.proofs.RecordLemmas.{known_defined, record_runs, union_runs}
+use Rattle.au_seen_fields.proofs.RecordLemmas.{known_defined, record_runs, union_runs}
 use Rattle.au_seen_fields.proofs.SeenLemmas.{first_of, record_seen, rest_of, under_names, union_seen}
-use Rattle.au_typed_runs.specs.Frames.{RecordIsSeen}
+use Rattle.au_typed_blocks.specs.Frames.{RecordIsSeen}
 use Rattle.au_typed_blocks.specs.Rounds.{UnionIsSeen, names_of}
 use Rattle.au_typed_blocks.proofs.BlockLemmas.{meant_target}
 use Rattle.au_seen_views.specs.Views.{DefinitionsAreApart, EachCaseIsKnown}

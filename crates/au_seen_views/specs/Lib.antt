@@ -1,1 +1,13 @@
+pub use Rattle.au_seen_fields.specs.Bodies
+pub use Rattle.au_seen_fields.specs.Tables
+pub use Rattle.au_seen_fields.specs.Instances
+pub use Rattle.au_seen_fields.specs.Standing
+pub use Rattle.au_typed_blocks.specs.RunningJudgements.Known
+pub use Rattle.au_seen_fields.specs.Generic
+pub use Rattle.au_typed_blocks.specs.Frames
+pub use Rattle.au_typed_blocks.specs.TypedRuns.Laws
+pub use Rattle.au_typed_blocks.specs.Rounds
 pub mod Views
+pub mod KnownTypes
+pub mod ClosedMeanings
+pub mod Closing

@@ -14,13 +14,13 @@ use Rattle.au_typing.specs.Insides.{cases_of, fields_of}
 use Rattle.au_typing.specs.Outsides.{outside_of}
 use Rattle.au_typing.specs.Scopes.{Case, Typed}
 use Rattle.au_typing.specs.Trees.{NotedParts}
-use Rattle.au_tables.specs.Tables.{DefinitionsFit, types_of}
-use Rattle.au_closed_meanings.specs.Generic.{view_under}
-use Rattle.au_known_types.specs.Known.{EachIsKnown, IsKnown}
-use Rattle.au_safe_steps.specs.Orders.{AreApart}
-use Rattle.au_standing_types.specs.Standing.{StandsFor}
+use Rattle.au_seen_fields.specs.Tables.{DefinitionsFit, types_of}
+use Rattle.au_seen_fields.specs.Generic.{view_under}
+use Rattle.au_seen_fields.specs.Known.{EachIsKnown, IsKnown}
+use Rattle.au_once_fields.specs.Orders.{AreApart}
+use Rattle.au_seen_fields.specs.Standing.{StandsFor}
 use Rattle.au_once_fields.specs.Apart.{IsApart}
-use Rattle.au_typed_runs.specs.Frames.{RecordIsSeen}
+use Rattle.au_typed_blocks.specs.Frames.{RecordIsSeen}
 use Rattle.au_typed_blocks.specs.Rounds.{UnionIsSeen, names_of}
 
 -- the cases of each definition, and the fields of each, have names of their own

@@ -8,8 +8,8 @@ ghost use Rattle.au_type_texts.specs.Given.{Given};
 ghost use Rattle.au_modules.specs.Programs.{ModuleParts};
 ghost use Rattle.au_names.specs.HeadsOf.{heads_of};
 ghost use Rattle.au_typing.specs.Trees.{NotedParts};
-ghost use Rattle.au_tables.specs.Tables.{DefinitionsFit};
-ghost use Rattle.au_standing_types.specs.Standing.{StandsFor};
+ghost use Rattle.au_seen_fields.specs.Tables.{DefinitionsFit};
+ghost use Rattle.au_seen_fields.specs.Standing.{StandsFor};
 ghost use Rattle.au_seen_views.specs.Views.{DefinitionsAreApart, RecordsAreViewed, UnionsAreViewed};
 
 /// The view of a body sees the records and the unions that the rules of typing know there.

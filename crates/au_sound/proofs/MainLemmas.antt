@@ -13,7 +13,7 @@ use Rattle.au_safe_ships.specs.Good.{Good, IsIn, lying_in}
 use Rattle.au_sound_blocks.specs.Blocks.{AllRun}
 use Rattle.au_sound_blocks.specs.Known.{AreActive, Callables}
 use Rattle.au_sound_blocks.proofs.LoopLemmas.{good_does}
-use Rattle.au_safe_steps.specs.Beginning.{IsExitOf}
+use Rattle.au_safe_ships.specs.Beginning.{IsExitOf}
 use Rattle.au_sound.specs.Runs.{EndsWell, IsSeenWell, RunsAreSafe, RunsWell, TakesRoot}
 use Rattle.au_sound.proofs.CallLemmas.{calls_at_safe}
 

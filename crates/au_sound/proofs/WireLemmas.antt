@@ -13,12 +13,12 @@ use Rattle.au_safe_ships.proofs.LendLemmas.{lends_well, reads_well, relends_well
 use Rattle.au_safe_ships.proofs.MakeLemmas.{apart_well, copies_well, makes_free_well, makes_linear_well}
 use Rattle.au_safe_ships.proofs.NameLemmas.{holds_well, looks_well, moves_well, sets_well}
 use Rattle.au_safe_ships.proofs.TellLemmas.{tells_readers_well, tells_values_well, tells_writers_well}
-use Rattle.au_safe_steps.proofs.BeginningLemmas.{counts_lying, exits_well, finishes_well, roots_come_well, starts_well}
-use Rattle.au_safe_steps.proofs.ComingLemmas.{drops_well, numbers_are_told, numbers_go_on, plains_come_well}
-use Rattle.au_safe_steps.proofs.ComingLemmas.{plains_drop_well, reorders_well, tells_well}
-use Rattle.au_safe_steps.proofs.FillingLemmas.{empties_well, fills_well}
-use Rattle.au_safe_steps.proofs.NamedLemmas.{fields_are_bound, labels_are_ordered}
-use Rattle.au_safe_steps.proofs.ReachingLemmas.{copies_writers_well, refers_well}
+use Rattle.au_safe_ships.proofs.BeginningLemmas.{counts_lying, exits_well, finishes_well, roots_come_well, starts_well}
+use Rattle.au_safe_ships.proofs.ComingLemmas.{drops_well, numbers_are_told, numbers_go_on, plains_come_well}
+use Rattle.au_safe_ships.proofs.ComingLemmas.{plains_drop_well, reorders_well, tells_well}
+use Rattle.au_safe_ships.proofs.FillingLemmas.{empties_well, fills_well}
+use Rattle.au_safe_ships.proofs.SafeSteps.NamedLemmas.{fields_are_bound, labels_are_ordered}
+use Rattle.au_safe_ships.proofs.ReachingLemmas.{copies_writers_well, refers_well}
 use Rattle.au_safe_ships.proofs.NamedLemmas.{empty_names_are_free, no_named_statics, no_statics, writers_look_well}
 use Rattle.au_safe_ships.proofs.OperatedLemmas.{compares_well, computes_well, equates_well, negates_well}
 use Rattle.au_safe_ships.proofs.ShippedLemmas.{ships_well}

@@ -12,7 +12,7 @@ use Rattle.au_meaning.specs.Views.{Field, Function}
 use Rattle.au_meaning.specs.Worlds.{Ending, Outcome, World, abort, exit, running, stuck}
 use Rattle.au_safe_ships.specs.Entering.{EntersWell, LeavesWell}
 use Rattle.au_safe_ships.specs.Sound.{IsHomeOf}
-use Rattle.au_safe_steps.specs.Beginning.{ExitsWell, FinishesWell, IsExitOf, RootsComeWell, StartsWell}
+use Rattle.au_safe_ships.specs.Beginning.{ExitsWell, FinishesWell, IsExitOf, RootsComeWell, StartsWell}
 use Rattle.au_sound_blocks.specs.Blocks.{AllRun}
 use Rattle.au_sound_blocks.specs.Known.{Callables}
 use Rattle.au_sound_blocks.specs.Steps.{StepsAreSafe}

@@ -57,17 +57,17 @@ use Rattle.au_meaning.specs.Names.{names_in, names_in_block, names_in_tests}
 use Rattle.au_meaning.specs.Statements as meant
 use Rattle.au_meaning.specs.Statements.{fields_noted, fields_told, means_case}
 use Rattle.au_meaning.specs.Views.{Field, View}
-use Rattle.au_known_types.specs.Known.{IsKnownIn, ModeIsKnownIn}
-use Rattle.au_known_types.proofs.KnownLemmas.{integer_known, opened_known, reads_known, truth_known, writes_known}
-use Rattle.au_known_types.proofs.KnownLemmas.{writes_parts}
-use Rattle.au_known_types.proofs.NotedLemmas.{part_known, type_known, written_known}
-use Rattle.au_known_types.proofs.ScopeLemmas.{lasts}
-use Rattle.au_running_judgements.specs.Blocks.{IsFine, IsWholeOf, Lends, Runs, RunsAll, RunsArms, RunsTests}
-use Rattle.au_running_judgements.specs.Blocks.{AreBound, Either, IsRecordOf, through, with_types}
-use Rattle.au_safe_steps.specs.Orders.{AreApart}
-use Rattle.au_running_judgements.specs.Expressions.{Borrows, IsNamed, IsOf, LooksInto, Reaches}
-use Rattle.au_running_judgements.specs.Known.{Callables, InScope, with_token}
-use Rattle.au_running_judgements.specs.Lives.{put}
+use Rattle.au_standing_types.specs.Known.{IsKnownIn, ModeIsKnownIn}
+use Rattle.au_standing_types.proofs.KnownLemmas.{integer_known, opened_known, reads_known, truth_known, writes_known}
+use Rattle.au_standing_types.proofs.KnownLemmas.{writes_parts}
+use Rattle.au_standing_types.proofs.NotedLemmas.{part_known, type_known, written_known}
+use Rattle.au_standing_types.proofs.ScopeLemmas.{lasts}
+use Rattle.au_typed_runs.specs.Blocks.{IsFine, IsWholeOf, Lends, Runs, RunsAll, RunsArms, RunsTests}
+use Rattle.au_typed_runs.specs.Blocks.{AreBound, Either, IsRecordOf, through, with_types}
+use Rattle.au_typed_runs.specs.Orders.{AreApart}
+use Rattle.au_typed_runs.specs.Expressions.{Borrows, IsNamed, IsOf, LooksInto, Reaches}
+use Rattle.au_typed_runs.specs.Known.{Callables, InScope, with_token}
+use Rattle.au_typed_runs.specs.Lives.{put}
 use Rattle.au_typed_runs.specs.Frames.{RecordIsSeen, field_closed}
 use Rattle.au_typed_runs.specs.Laws.{Keeps}
 use Rattle.au_typed_runs.proofs.ExpressionLemmas.{had, integer_is, noted_alike}

@@ -32,15 +32,15 @@ use Rattle.au_typing.specs.Statements as typing
 use Rattle.au_meaning.specs.Names as meaning
 use Rattle.au_meaning.specs.Names.{field_of}
 use Rattle.au_meaning.specs.Views.{Field, View}
-use Rattle.au_known_types.specs.Known.{IsKnownIn}
-use Rattle.au_known_types.proofs.KnownLemmas.{writes_parts}
-use Rattle.au_known_types.proofs.NotedLemmas.{written_known}
-use Rattle.au_safe_steps.specs.Binding.{bound_fields, field_names}
-use Rattle.au_safe_steps.specs.Orders.{AreApart, IsReordered}
-use Rattle.au_running_judgements.specs.Blocks.{AreBound, AreFine, IsFine, MayDrop, with_types}
-use Rattle.au_running_judgements.specs.Known.{Callables, InScope}
-use Rattle.au_running_judgements.specs.Lives.{put}
-use Rattle.au_running_judgements.specs.Picking.{AreTypesUnder, IsTypeUnder}
+use Rattle.au_standing_types.specs.Known.{IsKnownIn}
+use Rattle.au_standing_types.proofs.KnownLemmas.{writes_parts}
+use Rattle.au_standing_types.proofs.NotedLemmas.{written_known}
+use Rattle.au_typed_runs.specs.Binding.{bound_fields, field_names}
+use Rattle.au_typed_runs.specs.Orders.{AreApart, IsReordered}
+use Rattle.au_typed_runs.specs.Blocks.{AreBound, AreFine, IsFine, MayDrop, with_types}
+use Rattle.au_typed_runs.specs.Known.{Callables, InScope}
+use Rattle.au_typed_runs.specs.Lives.{put}
+use Rattle.au_typed_runs.specs.Picking.{AreTypesUnder, IsTypeUnder}
 use Rattle.au_typed_runs.specs.Frames.{field_closed}
 use Rattle.au_typed_runs.proofs.PartLemmas.{field_found}
 use Rattle.au_typed_blocks.specs.Besides.{MayDropEach, MayDropIn}

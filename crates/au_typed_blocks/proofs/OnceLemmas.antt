@@ -13,7 +13,7 @@ use Rattle.au_syntax.specs.Plain.{Bytes}
 use Rattle.au_typing.specs.Lookups.{type_of_name}
 use Rattle.au_typing.specs.Parts.{each_once}
 use Rattle.au_typing.specs.Scopes.{Typed}
-use Rattle.au_safe_steps.specs.Orders.{AreApart, IsNone, IsReordered}
+use Rattle.au_typed_runs.specs.Orders.{AreApart, IsNone, IsReordered}
 use Rattle.au_typed_blocks.specs.Rounds.{names_of}
 
 -- a name stands in a list

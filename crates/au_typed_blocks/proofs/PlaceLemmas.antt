@@ -29,13 +29,13 @@ use Rattle.au_typing.specs.Notes.{Note, NotedExpression, mode_of, type_of}
 use Rattle.au_typing.specs.Scopes.{Scope, Variable}
 use Rattle.au_meaning.specs.Names as meaning
 use Rattle.au_meaning.specs.Views.{View}
-use Rattle.au_known_types.specs.Known.{IsKnownIn, ModeIsKnownIn, ScopeIsKnown}
-use Rattle.au_known_types.proofs.KnownLemmas.{opened_known}
-use Rattle.au_known_types.proofs.ScopeLemmas.{variable_added}
-use Rattle.au_running_judgements.specs.Expressions.{IsOf}
-use Rattle.au_running_judgements.specs.Known.{Callables, InScope, with_token}
-use Rattle.au_running_judgements.specs.Lives.{put}
-use Rattle.au_running_judgements.specs.Blocks.{IsWholeOf}
+use Rattle.au_standing_types.specs.Known.{IsKnownIn, ModeIsKnownIn, ScopeIsKnown}
+use Rattle.au_standing_types.proofs.KnownLemmas.{opened_known}
+use Rattle.au_standing_types.proofs.ScopeLemmas.{variable_added}
+use Rattle.au_typed_runs.specs.Expressions.{IsOf}
+use Rattle.au_typed_runs.specs.Known.{Callables, InScope, with_token}
+use Rattle.au_typed_runs.specs.Lives.{put}
+use Rattle.au_typed_runs.specs.Blocks.{IsWholeOf}
 use Rattle.au_typed_runs.specs.Frames.{FrameFits, VariableIsThere}
 use Rattle.au_typed_runs.specs.Laws.{Keeps}
 use Rattle.au_typed_runs.proofs.ExpressionLemmas.{runs}

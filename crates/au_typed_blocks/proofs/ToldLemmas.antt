@@ -34,11 +34,11 @@ use Rattle.au_meaning.specs.Names as meaning
 use Rattle.au_meaning.specs.Names.{fields_through, told_type}
 use Rattle.au_meaning.specs.Statements.{fields_told, tag_told}
 use Rattle.au_meaning.specs.Views.{Field, View}
-use Rattle.au_known_types.specs.Known.{IsKnownIn}
-use Rattle.au_known_types.proofs.KnownLemmas.{reads_parts, writes_parts}
-use Rattle.au_safe_steps.specs.Orders.{AreApart}
-use Rattle.au_running_judgements.specs.Blocks.{AreTold, Told, owned, through, to_read, to_write}
-use Rattle.au_running_judgements.specs.Known.{Callables, InScope}
+use Rattle.au_standing_types.specs.Known.{IsKnownIn}
+use Rattle.au_standing_types.proofs.KnownLemmas.{reads_parts, writes_parts}
+use Rattle.au_typed_runs.specs.Orders.{AreApart}
+use Rattle.au_typed_runs.specs.Blocks.{AreTold, Told, owned, through, to_read, to_write}
+use Rattle.au_typed_runs.specs.Known.{Callables, InScope}
 use Rattle.au_typed_runs.specs.Frames.{field_closed}
 use Rattle.au_typed_blocks.specs.Rounds.{PlaceFits, UnionIsSeen, kinds_running, names_of}
 

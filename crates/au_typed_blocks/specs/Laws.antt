@@ -11,8 +11,8 @@ use Rattle.au_typing.specs.Statements.{GoodBlock}
 use Rattle.au_typing.specs.Trees.{NotedStatements}
 use Rattle.au_meaning.specs.Names as meaning
 use Rattle.au_meaning.specs.Views.{View}
-use Rattle.au_running_judgements.specs.Blocks.{RunsAll}
-use Rattle.au_running_judgements.specs.Known.{Callables}
+use Rattle.au_typed_runs.specs.Blocks.{RunsAll}
+use Rattle.au_typed_runs.specs.Known.{Callables}
 use Rattle.au_typed_blocks.specs.Besides.{BesidesAll}
 use Rattle.au_typed_blocks.specs.Rounds.{PlaceFits}
 

@@ -1,3 +1,15 @@
+pub use Rattle.au_standing_types.specs.Tables
+pub use Rattle.au_typed_runs.specs.Orders
+pub use Rattle.au_typed_runs.specs.Expressions
+pub use Rattle.au_typed_runs.specs.Picking
+pub use Rattle.au_typed_runs.specs.Frames
+pub use Rattle.au_standing_types.specs.Standing
+pub use Rattle.au_typed_runs.specs.Blocks
+pub use Rattle.au_typed_runs.specs.Known
+pub use Rattle.au_typed_runs.specs.Lives
 pub mod Rounds
 pub mod Besides
 pub mod Laws
+pub mod TypedRuns
+pub mod KnownTypes
+pub mod RunningJudgements

@@ -22,9 +22,9 @@ use Rattle.au_typing.specs.Scopes.{Case, Outside, Scope, Typed, Variable}
 use Rattle.au_meaning.specs.Names as meaning
 use Rattle.au_meaning.specs.Views.{View}
 use Rattle.au_meaning.specs.Worlds.{Value}
-use Rattle.au_known_types.specs.Known.{IsKnown, ScopeIsKnown}
-use Rattle.au_safe_steps.specs.Orders.{AreApart}
-use Rattle.au_running_judgements.specs.Known.{Callables, InScope}
+use Rattle.au_standing_types.specs.Known.{IsKnown, ScopeIsKnown}
+use Rattle.au_typed_runs.specs.Orders.{AreApart}
+use Rattle.au_typed_runs.specs.Known.{Callables, InScope}
 use Rattle.au_typed_runs.specs.Frames.{FrameFits, RecordIsSeen, field_closed}
 use Rattle.au_typed_runs.specs.Laws.{CallsRun}
 

@@ -9,7 +9,7 @@ ghost use Rattle.au_type_texts.specs.Types.{ClosedType};
 ghost use Rattle.au_memory.specs.Loans.{Types};
 ghost use Rattle.au_typing.specs.Notes.{Note};
 ghost use Rattle.au_meaning.specs.Views.{View};
-ghost use Rattle.au_running_judgements.specs.Known.{Callables};
+ghost use Rattle.au_typed_runs.specs.Known.{Callables};
 ghost use Rattle.au_standing_types.specs.Standing.{StandsFor};
 ghost use Rattle.au_typed_blocks.specs.Laws.{BlocksRun};
 

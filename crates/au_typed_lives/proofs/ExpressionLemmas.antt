@@ -15,7 +15,7 @@ use Rattle.au_typing.specs.Good.{AllGood, AllGoodIn, AllGoodLabelled}
 use Rattle.au_typing.specs.Lookups.{is_free_in, value_type, variable_of}
 use Rattle.au_typing.specs.Notes.{Note, NotedExpression}
 use Rattle.au_typing.specs.Scopes.{Scope, Variable}
-use Rattle.au_running_lives.specs.Counted.{AllSayFree, NamedSayFree, SaysFree}
+use Rattle.au_numbered_lives.specs.Counted.{AllSayFree, NamedSayFree, SaysFree}
 use Rattle.au_typed_lives.specs.Said.{TellsFree}
 
 module _ {I : Type 0} (see : View I Note (Unit {0})) (sc : Scope) (tells : TellsFree see sc) (x : Bytes)

@@ -1,2 +1,3 @@
+pub use Rattle.au_numbered_lives.proofs.NumberLemmas
 pub mod ExpressionLemmas
 pub mod SaidLemmas

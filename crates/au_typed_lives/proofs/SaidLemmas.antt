@@ -54,11 +54,11 @@ use Rattle.au_typing.specs.Scopes.{Case, Scope, Typed, Variable}
 use Rattle.au_typing.specs.Statements.{AreBound, GoodArmBlocks, GoodArms, GoodBlock, GoodBranches}
 use Rattle.au_typing.specs.Statements.{GoodStatement, IsReference}
 use Rattle.au_typing.specs.Trees.{NotedArms, NotedBranches, NotedStatement, NotedStatements}
-use Rattle.au_running_lives.specs.Counted.{SaysFree}
+use Rattle.au_numbered_lives.specs.Counted.{SaysFree}
 use Rattle.au_typed_lives.proofs.ExpressionLemmas.{says}
-use Rattle.au_names_ahead.proofs.StandLemmas.{of_field}
-use Rattle.au_names_ahead.specs.Lived.{SaysSorts}
-use Rattle.au_names_ahead.specs.Parts.{Declares, Each, EachArm, EachBound, EachIn, EachTest}
+use Rattle.au_numbered_lives.proofs.StandLemmas.{of_field}
+use Rattle.au_numbered_lives.specs.Lived.{SaysSorts}
+use Rattle.au_numbered_lives.specs.Parts.{Declares, Each, EachArm, EachBound, EachIn, EachTest}
 use Rattle.au_numbered_lives.specs.Sorts.{sorts_of}
 use Rattle.au_numbered_lives.proofs.NumberLemmas.{AreSorted, many, many_bound, many_inside, many_tests, moved}
 use Rattle.au_numbered_lives.proofs.NumberLemmas.{plain}

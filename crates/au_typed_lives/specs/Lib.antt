@@ -1,1 +1,2 @@
+pub use Rattle.au_numbered_lives.specs.Sorts
 pub mod Said

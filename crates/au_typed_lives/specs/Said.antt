@@ -13,8 +13,8 @@ use Rattle.au_typing.specs.Bodies.{GoodBody, generics_in, outer_scope}
 use Rattle.au_typing.specs.Lookups.{is_free_in, parameters_in, variable_of}
 use Rattle.au_typing.specs.Notes.{Note}
 use Rattle.au_typing.specs.Scopes.{Outside, Scope, Variable}
-use Rattle.au_names_ahead.specs.Lived.{SaysSorts}
-use Rattle.au_names_ahead.specs.Parts.{EachIn}
+use Rattle.au_numbered_lives.specs.Lived.{SaysSorts}
+use Rattle.au_numbered_lives.specs.Parts.{EachIn}
 use Rattle.au_numbered_lives.specs.Sorts.{sorts_of}
 
 -- what types are judged by in a scope

@@ -1,0 +1,2 @@
+pub use Rattle.au_lived_bodies.specs.Bodies
+pub mod Asked

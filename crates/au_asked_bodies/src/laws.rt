@@ -1,0 +1,10 @@
+//! The law of what the statements of good bodies are asked, as the contract of a call that does nothing.
+
+ghost use Rattle.au_meaning.specs.Views.{Function};
+ghost use Rattle.au_typing.specs.Notes.{Note};
+ghost use Rattle.au_asked_bodies.specs.Asked.{BodiesAreAsked};
+
+/// The statements of a good body are as they are asked besides the rules of typing.
+pub fn bodies_are_asked<I>()
+    ensures { (f : Function I Note (Unit {0})) → BodiesAreAsked f }
+{}

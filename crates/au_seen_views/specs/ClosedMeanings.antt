@@ -1,0 +1,2 @@
+-- What is named here of `au_closed_meanings`, for the crates above.
+pub use Rattle.au_seen_fields.specs.Generic

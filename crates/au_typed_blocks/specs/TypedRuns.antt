@@ -1,0 +1,2 @@
+-- What is named here of `au_typed_runs`, for the crates above.
+pub use Rattle.au_typed_runs.specs.Laws

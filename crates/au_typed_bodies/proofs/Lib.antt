@@ -1,0 +1,2 @@
+pub use Rattle.au_typed_blocks.proofs.BlockLemmas
+pub mod BodyLemmas
