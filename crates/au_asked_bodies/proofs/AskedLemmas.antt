@@ -56,7 +56,11 @@ use Rattle.au_lived_bodies.proofs.NumberLemmas.{plain, plus_zero, sorted}
 use Rattle.au_lived_bodies.specs.Said.{types_of}
 use Rattle.au_lived_bodies.specs.Bodies.{sorts_in}
 use Rattle.au_lived_bodies.proofs.BodyLemmas.{bodies_ahead}
-use Rattle.au_asked_bodies.specs.Asked.{BodiesAreAsked}
+use Rattle.au_asked_bodies.specs.Asked.{BodiesAreAsked, MayDropGiven, ParametersMayDrop}
+use Rattle.au_program_lives.specs.Scopes as judge
+use Rattle.au_typing.specs.Scopes.{Outside}
+use Rattle.au_syntax.specs.Modules.{Constrained, Header}
+use Rattle.au_typing.specs.Bodies.{body_scope}
 use Rattle.au_asked_bodies.proofs.KeptLemmas.{keeps}
 use Rattle.au_asked_bodies.proofs.RegionLemmas.{AreOpen, first_open, later, new_region, region_too}
 
@@ -434,3 +438,63 @@ bodies_asked f outside generics header is declared =
     go_all is.foreign f.view sorts number (scope_of f) f.body is.body.scope (is.before ++ given)
     (right_new is.foreign is.before given body is.new) begins.1 begins.0
     (bodies_ahead f outside generics header is).2
+
+-- ---- parameters
+
+given_drop : (sorts : ℕ → Sort) (number : ℕ) (sc : Scope) (body : PlainStatements) (ps : List (Labelled Bytes))
+    → AreSorted sorts number (parameters_over body ps (types_of sc))
+    → MayDropGiven (loose_by sorts) sc number ps
+given_drop sorts number sc body [] asked = tt
+given_drop sorts number sc body (p ∷ rest) asked = (
+  λ may of formed. written_drops sc p.of of formed (sym (ap may_drop asked.0) ∙ may),
+  given_drop sorts (number + 1) sc body rest asked.1,
+)
+
+pub parameters_drop : {I : Type 0} (f : Function I Note (Unit {0})) → ParametersMayDrop f
+parameters_drop f outside generics header =
+    let outer = outer_scope outside (generics_in outside generics) in
+    let sorts = λ (k : ℕ). sorts_in f outside generics header k in
+    let vs = parameters_over (plain f.body) header.parameters (types_of outer) in
+    let ws = variables_in (plain f.body) (types_of outer) in
+    given_drop sorts f.first outer (plain f.body) header.parameters
+    (parts_sorted sorts f.first vs ws (sorted f.first (vs ++ ws))).0
+
+-- ---- the scope of a body judges types as the one outside of it
+
+pub scope_types : (outside : Outside) (generics : List (Constrained Bytes)) (header : Header Bytes) (scope : Scope)
+    → body_scope outside generics header ≡ Ok scope
+    → types_of scope ≡ types_of (outer_scope outside (generics_in outside generics))
+scope_types outside generics header scope formed =
+    body_types (with_parameters header.parameters (outer_scope outside (generics_in outside generics))) header.result
+    (outer_scope outside (generics_in outside generics)) scope
+    (λ mid formed. parameters_types header.parameters (outer_scope outside (generics_in outside generics)) mid formed)
+    formed
+
+-- and its result is what is written
+pub scope_result : (outside : Outside) (generics : List (Constrained Bytes)) (header : Header Bytes) (scope : Scope)
+    → body_scope outside generics header ≡ Ok scope → (of : Meaning)
+    → written_type (outer_scope outside (generics_in outside generics)) header.result ≡ Ok of
+    → scope.result ≡ of
+scope_result outside generics header scope formed of says =
+    by (with_parameters header.parameters outer) refl formed
+  where
+    outer : Scope
+    outer = outer_scope outside (generics_in outside generics)
+
+    alike : (sc : Scope) → types_of sc ≡ types_of outer
+        → written_type sc header.result ≡ written_type outer header.result
+    alike sc same = ap (λ (ts : TypeScope). outcome_noted (judge.meant ts header.result)) same
+
+    last : (mid : Scope) (n : Noting Meaning) → n ≡ Ok of
+        → (n >>= (λ t. Ok (record mid { result = t }))) ≡ Ok scope → scope.result ≡ of
+    last mid (Ok t) is e =
+        let one : t ≡ of = cc in
+        let two : record mid { result = t } ≡ scope = cc in sym (ap (λ (sc : Scope). sc.result) two) ∙ one
+    last mid (Err fault) is e = absurd cc
+
+    by : (n : Noting Scope) → with_parameters header.parameters outer ≡ n
+        → (n >>= (λ sc. with_result header.result sc)) ≡ Ok scope → scope.result ≡ of
+    by (Ok mid) is e =
+        last mid (written_type mid header.result)
+        (alike mid (parameters_types header.parameters outer mid is) ∙ says) e
+    by (Err fault) is e = absurd cc
