@@ -1,6 +1,6 @@
 -- Constants of a checked program stand.
-use Rattle.std.proofs.Common.{◌≡◌, ◌⊎◌, inl, inr, ℕ, Bool, false, true≢false, cond, List, [], find, length, Option, None}
-use Rattle.std.proofs.Common.{Some, refl, sym, ap, ◌∙◌, subst}
+use Rattle.std.proofs.Common.{◌≡◌, ◌⊎◌, inl, inr, ℕ, Bool, false, true≢false, cond, List, [], find, length}
+use Rattle.std.proofs.Common.{Option, None, Some, refl, sym, ap, ◌∙◌, subst}
 use Rattle.std.specs.Prelude.{slice_get}
 use Rattle.std.specs.List.{position, position_or_len}
 use Rattle.std.specs.Option.{option_and_then, option_map}
@@ -46,7 +46,8 @@ use Rattle.au_closed_meanings.specs.Surroundings.{literal_value}
 use Rattle.au_memory.specs.Shown.{IsPlain}
 use Rattle.au_checked.specs.Checked.{IsChecked}
 use Rattle.au_standing_constants.specs.Standing.{ConstantsOfProgramsStand}
-use Rattle.au_standing_constants.proofs.DefinedLemmas.{defined_fits, good_of_body, none_promised, type_written}
+use Rattle.au_standing_constants.proofs.DefinedLemmas.{defined_fits, good_of_body, none_promised}
+use Rattle.au_standing_constants.proofs.DefinedLemmas.{type_written}
 use Rattle.au_standing_constants.proofs.LiteralLemmas.{Fits, simple_runs, simple_whole}
 
 -- what is found has a place
@@ -54,7 +55,8 @@ placed : {A : Type 0} (p : A → Bool) (xs : List A) (x : A) → find p xs ≡ S
     → position p xs ≡ Some (position_or_len p xs)
 placed p xs x e =
     ap (λ b. cond b (Some (position_or_len p xs)) None)
-    (lt-ltb (position_or_len p xs) (length xs) (slice_get_within xs (position_or_len p xs) x (sym (find_at p xs) ∙ e)))
+    (lt-ltb (position_or_len p xs) (length xs)
+    (slice_get_within xs (position_or_len p xs) x (sym (find_at p xs) ∙ e)))
 
 -- what defines a promised constant has a written type that means the same
 typed_alike : (sight : Sight) (w : WrittenType) (e : PlainDeclaration) → OfType sight w e
@@ -99,8 +101,9 @@ module _ (program : List ModuleParts) (noted : List NotedParts) (checked : IsChe
 
     -- one that stands in a body
     here : (m : ModuleParts) → slice_get program d.place ≡ Some m → d.part ≡ Body
-        → slice_get (declarations_in m.body) d.index ≡ Some d.says → (w : WrittenType) → type_written d.says ≡ Some w
-        → meant_there d.place d.part w ≡ Some t → HasLiteral
+        → slice_get (declarations_in m.body) d.index ≡ Some d.says
+        → (w : WrittenType) → type_written d.says ≡ Some w → meant_there d.place d.part w ≡ Some t
+        → HasLiteral
     here m is part e w written means =
         subst (λ o. Fits (option_and_then value_in (noted_at noted d.place o)) t)
         (sym (ap (defining_index program d) part))
@@ -125,7 +128,8 @@ module _ (program : List ModuleParts) (noted : List NotedParts) (checked : IsChe
         ap (defining_index program d) part
         ∙ ap (λ o. defining_in program d.place o d.says) is
         ∙ ap (defining_in program d.place (Some m)) says
-        ∙ ap (λ o. position (defines sight promise) (declarations_seen (option_map (λ (x : Entry). x.tree) o))) of_body
+        ∙ ap (λ o. position (defines sight promise)
+        (declarations_seen (option_map (λ (x : Entry). x.tree) o))) of_body
         ∙ placed (defines sight promise) body.tree.declarations passes.0 passes.1 in
         let there : slice_get (declarations_in m.body) index ≡ Some passes.0 =
         ap (λ o. slice_get (declarations_in o) index) of_body
@@ -146,13 +150,16 @@ module _ (program : List ModuleParts) (noted : List NotedParts) (checked : IsChe
         → meant_there d.place d.part w ≡ Some t → HasLiteral
     in_interface m is same part e place n w says means = by m.interface refl m.body refl
       where
-        by : (interface : Option Entry) → m.interface ≡ interface → (body : Option Entry) → m.body ≡ body → HasLiteral
+        by : (interface : Option Entry) → m.interface ≡ interface → (body : Option Entry) → m.body ≡ body
+            → HasLiteral
         by None none other its =
             absurd (none-some d.says (sym (ap (λ o. slice_get (declarations_in o) d.index) none) ∙ e))
         by (Some interface) of_interface None none =
-            absurd (none_promised program checked.gathered m at.«module» is none d.index place n w (e ∙ ap Some says))
+            absurd (none_promised program checked.gathered m at.«module» is none d.index place n w
+            (e ∙ ap Some says))
         by (Some interface) of_interface (Some body) of_body =
-            promised m interface body (ap (slice_get program) same ∙ is) of_interface of_body part e place n w says means
+            promised m interface body (ap (slice_get program) same ∙ is) of_interface of_body part e place n w
+            says means
 
     abbrev Stands : Type 0
     Stands = (m : ModuleParts) × (slice_get program at.«module» ≡ Some m)
@@ -163,12 +170,12 @@ module _ (program : List ModuleParts) (noted : List NotedParts) (checked : IsChe
     not_there : (part : Part) → d.part ≡ part → (says : PlainDeclaration) → d.says ≡ says
         → formed_declaration part says ≡ false → ⊥
     not_there part is says same isnt =
-        true≢false (sym (parts_hold program checked.gathered at d found) ∙ ap (λ p. formed_declaration p d.says) is
-        ∙ ap (formed_declaration part) same ∙ isnt)
+        true≢false (sym (parts_hold program checked.gathered at d found)
+        ∙ ap (λ p. formed_declaration p d.says) is ∙ ap (formed_declaration part) same ∙ isnt)
 
     -- a constant has a literal of its type
-    declared_fits : (says : PlainDeclaration) → d.says ≡ says → constant_declared program d says ≡ Some t → Stands
-        → HasLiteral
+    declared_fits : (says : PlainDeclaration) → d.says ≡ says → constant_declared program d says ≡ Some t
+        → Stands → HasLiteral
     declared_fits (constant place n w) same means (m, is, inl its) =
         in_interface m is its.0 its.1 its.2 place n w same means
     declared_fits (constant place n w) same means (m, is, inr its) =
@@ -194,8 +201,8 @@ module _ (program : List ModuleParts) (noted : List NotedParts) (checked : IsChe
     pub seen : constant_seen program place name ≡ Some at
     pub fits : Fits (value_of program noted at) t
 
-  seen_fits : (place : ℕ) (name : Bytes) (t : Meaning) → (outside_of program place Body).constant name ≡ Some t
-      → IsSeen place name t
+  seen_fits : (place : ℕ) (name : Bytes) (t : Meaning)
+      → (outside_of program place Body).constant name ≡ Some t → IsSeen place name t
   seen_fits place name t e = by (tables.find name (seen_at Values program place Body)) refl e
     where
       found_by : (target : Target) → tables.find name (seen_at Values program place Body) ≡ Some target
@@ -221,7 +228,9 @@ constants_of_programs_stand program noted checked place generics given = record 
       let its = seen_fits program noted checked place name t e in (
         literal_value its.fits.literal,
         ap (constant_of program noted) its.seen ∙ ap (option_map literal_value) its.fits.there,
-        subst (IsPlain (literal_value its.fits.literal)) (sym (simple_runs s z t its.fits.simple)) its.fits.plain,
+        subst (IsPlain (literal_value its.fits.literal)) (sym (simple_runs s z t its.fits.simple))
+            its.fits.plain,
       );
-  wholes = λ name t e. simple_whole program place t (seen_fits program noted checked place name t e).fits.simple;
+  wholes = λ name t e.
+      simple_whole program place t (seen_fits program noted checked place name t e).fits.simple;
 }

@@ -1,5 +1,7 @@
--- What defines a constant has a literal of the type that is written for it; and no shipped module has constants.
-use Rattle.std.proofs.Common.{◌≡◌, ◌⊎◌, inl, inr, ℕ, zero, suc, ◌+◌, Bool, true, false, true≢false, List, [], ◌∷◌, ◌++◌, map}
+-- What defines a constant has a literal of the type that is written for it; and no shipped module has
+-- constants.
+use Rattle.std.proofs.Common.{◌≡◌, ◌⊎◌, inl, inr, ℕ, zero, suc, ◌+◌, Bool, true, false, true≢false, List}
+use Rattle.std.proofs.Common.{[], ◌∷◌, ◌++◌, map}
 use Rattle.std.proofs.Common.{Option, None, Some, refl, sym, ap, ◌∙◌, subst, arith, zero-add}
 use Rattle.std.specs.Prelude.{Ok, Err, slice_get}
 use Rattle.std.specs.List.{list_all}
@@ -43,7 +45,8 @@ kept_ok (Ok t) = Some t
 kept_ok (Err fault) = None
 
 -- a written type that is judged to mean one means it, where nothing is in scope
-written_meant : (outside : Outside) (w : WrittenType) (of : Meaning) → written_type (outer_scope outside []) w ≡ Ok of
+written_meant : (outside : Outside) (w : WrittenType) (of : Meaning)
+    → written_type (outer_scope outside []) w ≡ Ok of
     → meant [] [] outside.visible outside.heads w ≡ Some of
 written_meant outside w of e = by (written_means (outer_scope outside []) w) refl e
   where
@@ -51,7 +54,8 @@ written_meant outside w of e = by (written_means (outer_scope outside []) w) ref
         → meant [] [] outside.visible outside.heads w ≡ Some of
     by (fails reason) is e = absurd (none-some of (ap kept_ok e))
     by (means u) is e =
-        (judged_is_meant outside.heads [] [] outside.visible w u is).0 ∙ ap Some (same_Some u of (ap kept_ok e))
+        (judged_is_meant outside.heads [] [] outside.visible w u is).0
+        ∙ ap Some (same_Some u of (ap kept_ok e))
 
 -- a definition that is good has a literal of its type
 pub defined_fits : (outside : Outside) (d : NotedDeclaration) (w : WrittenType) (t : Meaning)
@@ -76,7 +80,8 @@ defined_fits outside (instance_body at gs n t ms) w of good written is = absurd 
 -- ---- good declarations
 
 good_at : (outside : ℕ → Part → Outside) (place k : ℕ) (noted : List NotedParts) (m : NotedParts)
-    → GoodModules outside place noted → slice_get noted k ≡ Some m → GoodPart (outside (place + k) Body) m.body
+    → GoodModules outside place noted → slice_get noted k ≡ Some m
+    → GoodPart (outside (place + k) Body) m.body
 good_at outside place k [] m good e = absurd (none-some m e)
 good_at outside place zero (first ∷ rest) m good e =
     let here : GoodPart (outside place Body) first.body = good.1 in
@@ -124,9 +129,11 @@ none_shipped = refl
 
 -- a module without a body promises no constant
 pub none_promised : (program : List ModuleParts) → IsGathered program → (m : ModuleParts) (place : ℕ)
-    → slice_get program place ≡ Some m → m.body ≡ None → (index : ℕ) (at : Pos) (name : Placed Bytes) (t : WrittenType)
+    → slice_get program place ≡ Some m → m.body ≡ None
+    → (index : ℕ) (at : Pos) (name : Placed Bytes) (t : WrittenType)
     → slice_get (declarations_in m.interface) index ≡ Some (constant at name t) → ⊥
-none_promised program gathered m place is none index at name t there = by (module_is program gathered m place is)
+none_promised program gathered m place is none index at name t there =
+    by (module_is program gathered m place is)
   where
     files : List Entry
     files = map entry_of shipped_files

@@ -1,11 +1,13 @@
 -- A good literal of which a type is wanted has a plain value of it.
-use Rattle.std.proofs.Common.{◌≡◌, ℕ, ℤ, neg_ℤ, false, true, true≢false, List, Option, None, Some, refl, sym, subst}
+use Rattle.std.proofs.Common.{◌≡◌, ℕ, ℤ, neg_ℤ, false, true, true≢false, List, Option, None, Some, refl}
+use Rattle.std.proofs.Common.{sym, subst}
 use Rattle.std.specs.Prelude.{int_le, is_some}
 use Rattle.std.proofs.lemmas.Bool.{and_parts}
 use Rattle.au_base.specs.declared.kinds.IntKind.{IntKind}
 use Rattle.au_ints.specs.Ranges.{greatest_of, is_of_kind, least_of}
 use Rattle.au_syntax.specs.Expressions.{number, negative, text, truth, nil, path, arrow, call, named_call}
-use Rattle.au_syntax.specs.Expressions.{parenthesized, dereference, borrow, borrow_part, binary, negation, typed, choice}
+use Rattle.au_syntax.specs.Expressions.{parenthesized, dereference, borrow, borrow_part, binary, negation}
+use Rattle.au_syntax.specs.Expressions.{typed, choice}
 use Rattle.au_types.specs.Types as mean
 use Rattle.au_types.specs.Types.{Meaning}
 use Rattle.au_types.proofs.SameLemmas.{same_is}
@@ -82,8 +84,8 @@ integer_fits t kind z is ok =
 wanted_is : (n : Note) (of : Meaning) → Kept n → n.mode ≡ Some of → n.of ≡ of
 wanted_is n of kept is = sym (same_is of n.of (subst (λ m. meets m n.of ≡ true) is kept.wanted))
 
-pub literal_fits : (sc : Scope) (of : Meaning) (e : NotedExpression) → Wants sc e (Some of) → is_literal e ≡ true
-    → Fits (literal_of e) of
+pub literal_fits : (sc : Scope) (of : Meaning) (e : NotedExpression) → Wants sc e (Some of)
+    → is_literal e ≡ true → Fits (literal_of e) of
 literal_fits sc of (number n l) good is =
     subst (Fits (literal_of (number n l))) (wanted_is n.note of good.0.0 good.1)
     (integer_fits n.note.of (literal_kind n.note.mode) l.value good.0.1.0 good.0.1.1)

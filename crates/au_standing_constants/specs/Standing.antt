@@ -7,9 +7,10 @@ use Rattle.au_typing.specs.Trees.{NotedParts}
 use Rattle.au_checked.specs.Checked.{IsChecked}
 use Rattle.au_round_programs.specs.Bodies.{ConstantsStand}
 
--- In a checked program the constants stand that are seen in the body of the module at a place, whatever is given for
--- type parameters there.
+-- In a checked program the constants stand that are seen in the body of the module at a place, whatever is
+-- given for type parameters there.
 abbrev pub ConstantsOfProgramsStand : Type 0
 ConstantsOfProgramsStand =
     (program : List ModuleParts) (noted : List NotedParts) → IsChecked program noted
-    → (place : ℕ) (generics : List Bounded) (given : Given) → ConstantsStand program noted place generics given
+    → (place : ℕ) (generics : List Bounded) (given : Given)
+    → ConstantsStand program noted place generics given
