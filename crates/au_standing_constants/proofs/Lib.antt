@@ -1,0 +1,3 @@
+mod LiteralLemmas
+mod DefinedLemmas
+pub mod ConstantLemmas
