@@ -3,9 +3,9 @@ use Rattle.std.proofs.Common.{◌≡◌, ℕ, suc, ◌+◌, Bool, List, [], ◌�
 use Rattle.std.proofs.Common.{refl, sym, ap}
 use Rattle.std.proofs.Common.{◌∙◌, subst}
 use Rattle.std.specs.Option.{option_map}
-use Rattle.std.proofs.lemmas.Option.{none-some}
+use Rattle.std.proofs.lemmas.Option.{none-some, same_Some}
 use Rattle.au_syntax.specs.declared.modules.Part.TheVariants.{Body}
-use Rattle.au_syntax.specs.Modules.{Constrained}
+use Rattle.au_syntax.specs.Modules.{Constrained, Header}
 use Rattle.au_syntax.specs.Plain.{Bytes}
 use Rattle.au_syntax.specs.Types.{Labelled, WrittenType}
 use Rattle.au_types.specs.Meant.{meant}
@@ -21,11 +21,12 @@ use Rattle.au_type_texts.specs.Types.{ClosedType}
 use Rattle.au_written_types.specs.Written.{IsRegionName}
 use Rattle.au_modules.specs.Programs.{ModuleParts}
 use Rattle.au_names.specs.HeadsOf.{heads_of}
-use Rattle.au_typing.specs.Bodies.{GoodBody, generics_in, outer_scope}
-use Rattle.au_typing.specs.Faults.{Noting}
+use Rattle.au_typing.specs.Bodies.{GoodBody, body_scope, generics_in, outer_scope, with_parameters, with_result}
+use Rattle.au_typing.specs.Faults.{Noting, ◌>>=◌}
+use Rattle.au_typing.specs.InScope.{fixed_variable, with_variable}
 use Rattle.au_typing.specs.Lookups.{outcome_noted, written_means, written_type}
 use Rattle.au_typing.specs.Outsides.{outside_of}
-use Rattle.au_typing.specs.Scopes.{Scope}
+use Rattle.au_typing.specs.Scopes.{Outside, Scope}
 use Rattle.au_typing.specs.Trees.{NotedParts}
 use Rattle.au_typing.specs.Written.{types_at}
 use Rattle.au_closed_trees.specs.Parts.{field_under}
@@ -56,8 +57,49 @@ abbrev kept : Noting Meaning → Option Meaning
 kept (Ok t) = Some t
 kept (Err fault) = None
 
+abbrev scope_kept : Noting Scope → Option Scope
+scope_kept (Ok sc) = Some sc
+scope_kept (Err fault) = None
+
+-- with parameters in scope, a written type means what it does without
+writes_alike : (ps : List (Labelled Bytes)) (sc last : Scope) → with_parameters ps sc ≡ Ok last → (t : WrittenType)
+    → written_type last t ≡ written_type sc t
+writes_alike [] sc last e t = ap (λ one. written_type one t) (sym (same_Some sc last (ap scope_kept e)))
+writes_alike (p ∷ rest) sc last e t =
+    by (written_type sc p.of) e
+    (λ of later. writes_alike rest (with_variable (fixed_variable p.name.name of) sc) last later t)
+  where
+    by : (o : Noting Meaning)
+        → (o >>= λ of. with_parameters rest (with_variable (fixed_variable p.name.name of) sc)) ≡ Ok last
+        → ((of : Meaning) → with_parameters rest (with_variable (fixed_variable p.name.name of) sc) ≡ Ok last
+        → written_type last t ≡ written_type sc t)
+        → written_type last t ≡ written_type sc t
+    by (Err fault) e later = absurd (none-some last (ap scope_kept e))
+    by (Ok of) e later = later of e
+
+-- the result of a body is what is written for it
+result_written : (outside : Outside) (generics : List (Constrained Bytes)) (header : Header Bytes) (scope : Scope)
+    → body_scope outside generics header ≡ Ok scope
+    → written_type (outer_scope outside (generics_in outside generics)) header.result ≡ Ok scope.result
+result_written outside generics header scope formed =
+    by (with_parameters header.parameters (outer_scope outside (generics_in outside generics))) refl formed
+  where
+    last : (sc : Scope) (o : Noting Meaning) → (o >>= λ of. Ok (record sc { result = of })) ≡ Ok scope
+        → o ≡ Ok scope.result
+    last sc (Err fault) e = absurd (none-some scope (ap scope_kept e))
+    last sc (Ok of) e = ap (λ (one : Scope). Ok one.result) (same_Some (record sc { result = of }) scope (ap scope_kept e))
+
+    by : (o : Noting Scope)
+        → with_parameters header.parameters (outer_scope outside (generics_in outside generics)) ≡ o
+        → (o >>= λ sc. with_result header.result sc) ≡ Ok scope
+        → written_type (outer_scope outside (generics_in outside generics)) header.result ≡ Ok scope.result
+    by (Err fault) is e = absurd (none-some scope (ap scope_kept e))
+    by (Ok sc) is e =
+        sym (writes_alike header.parameters (outer_scope outside (generics_in outside generics)) sc is header.result)
+        ∙ last sc (written_type sc header.result) e
+
 -- a written type that is judged to mean something means it
-meant_so : (sc : Scope) (t : WrittenType) (of : Meaning) → written_type sc t ≡ Ok of
+pub meant_so : (sc : Scope) (t : WrittenType) (of : Meaning) → written_type sc t ≡ Ok of
     → meant sc.regions (parameters sc.generics) sc.outside.visible sc.outside.heads t ≡ Some of
 meant_so sc t of e = by (written_means sc t) refl e
   where
@@ -75,15 +117,11 @@ as_many sc given (p ∷ rest) (of ∷ others) are = ap suc (as_many sc given res
 as_many sc given [] (of ∷ others) are = absurd are
 as_many sc given (p ∷ rest) [] are = absurd are
 
-kinds_many : (s : Bindings) (ofs : List Meaning) → length (kinds_given s ofs) ≡ length ofs
-kinds_many s [] = refl
-kinds_many s (of ∷ others) = ap suc (kinds_many s others)
-
 module _ (program : List ModuleParts) (place : ℕ) (generics : List (Constrained Bytes)) (given : Given) where
   abbrev outer : Scope
   outer = outer_scope (outside_of program place Body) (generics_in (outside_of program place Body) generics)
 
-  params_alike : parameters (generics_in (outside_of program place Body) generics) ≡ written_params generics
+  pub params_alike : parameters (generics_in (outside_of program place Body) generics) ≡ written_params generics
   params_alike =
       meant_parameters
       (class_meant (written_params generics) (outside_of program place Body).visible
@@ -117,11 +155,13 @@ module _ (program : List ModuleParts) (noted : List NotedParts) (body : BodyOf) 
       → InScope active (region_for (value_of name s) name))
       → BesidesAll (view_of program noted body given) loose (first + length (parameters_under program noted given body))
       good.scope (meaning.with_parameters first (parameters_under program noted given body) []) body.block
-      → BodyRuns program noted body given owner known loose active first names
+      → BodyRuns program noted body given owner known loose active first s names
   body_runs checked good constants calls loose active first s names stands regions besides = record {
-    kinds = kinds_given s begun.ofs;
-    result = running s 0 good.scope.result;
-    many = ap length alike ∙ counted ∙ sym (kinds_many s begun.ofs);
+    ofs = begun.ofs;
+    result = good.scope.result;
+    takes = begun.are;
+    gives = result_written (outside_of program body.place Body) body.generics body.header good.scope good.formed;
+    many = ap length alike ∙ counted;
     runs = all_run (types_of program) owner (view_of program noted body given) known given
         (StandsFor (heads_of program) (parameters (generics_of program noted body given)) given) loose
         (running s 0 good.scope.result) body.block active

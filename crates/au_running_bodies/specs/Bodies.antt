@@ -1,5 +1,5 @@
 -- The bodies of a checked program run, by the rules of typing, at running types.
-use Rattle.std.specs.Prelude.{◌≡◌, ℕ, ◌+◌, Bool, List, [], length, Option}
+use Rattle.std.specs.Prelude.{◌≡◌, ℕ, ◌+◌, Bool, List, [], length, Option, Ok}
 use Rattle.au_syntax.specs.declared.modules.Part.TheVariants.{Body}
 use Rattle.au_types.specs.Types.{Meaning}
 use Rattle.au_matching.specs.Bindings.{Bindings, value_of}
@@ -7,10 +7,12 @@ use Rattle.au_matching.specs.Substituted.{region_for}
 use Rattle.au_judged_types.specs.Bounds.{Bounded, parameters}
 use Rattle.au_type_texts.specs.Given.{Given}
 use Rattle.au_type_texts.specs.Types.{ClosedType}
+use Rattle.au_running_types.specs.Running.{running}
 use Rattle.au_written_types.specs.Written.{IsRegionName}
 use Rattle.au_modules.specs.Programs.{ModuleParts}
 use Rattle.au_names.specs.HeadsOf.{heads_of}
-use Rattle.au_typing.specs.Bodies.{GoodBody, generics_in}
+use Rattle.au_typing.specs.Bodies.{GoodBody, generics_in, outer_scope}
+use Rattle.au_typing.specs.Lookups.{written_type}
 use Rattle.au_typing.specs.Notes.{Note}
 use Rattle.au_typing.specs.Outsides.{outside_of}
 use Rattle.au_typing.specs.Trees.{NotedParts}
@@ -23,6 +25,7 @@ use Rattle.au_typed_bodies.specs.Tables.{types_of}
 use Rattle.au_typed_bodies.specs.Blocks.{RunsAll, with_types}
 use Rattle.au_typed_bodies.specs.Known.{Callables, InScope}
 use Rattle.au_typed_bodies.specs.Standing.{StandsFor}
+use Rattle.au_typed_bodies.specs.Begun.{AreMeant, kinds_given}
 use Rattle.au_typed_bodies.specs.Besides.{BesidesAll}
 use Rattle.au_round_programs.specs.Bodies.{CallsRunHere, ConstantsStand}
 use Rattle.au_round_programs.specs.Checked.{IsChecked}
@@ -35,16 +38,19 @@ module _ (program : List ModuleParts) (noted : List NotedParts) (body : BodyOf) 
   abbrev pub view_of : View Instance Note (Unit {0})
   view_of = view_under program noted body.place (parameters generics_of) given
 
-  -- A body runs, with its parameters as the first names of its frame.
+  -- A body runs, with its parameters as the first names of its frame, at the running types of what is written for them and
+  -- for its result.
   pub record BodyRuns (owner : ClosedType → Option (List ℕ)) {K : Type 0} (known : Callables Instance K)
-      (loose : ℕ → Bool) (active : ℕ → Bool) (first : ℕ) (names : ℕ → Meaning) : Type 0 where
-    pub kinds : List Meaning
+      (loose : ℕ → Bool) (active : ℕ → Bool) (first : ℕ) (s : Bindings) (names : ℕ → Meaning) : Type 0 where
+    pub ofs : List Meaning
     pub result : Meaning
-    pub many : length (parameters_under program noted given body) ≡ length kinds
-    pub runs : RunsAll (types_of program) owner view_of known result loose active
+    pub takes : AreMeant (outer_scope (outside_of program body.place Body) generics_of) body.header.parameters ofs
+    pub gives : written_type (outer_scope (outside_of program body.place Body) generics_of) body.header.result ≡ Ok result
+    pub many : length (parameters_under program noted given body) ≡ length ofs
+    pub runs : RunsAll (types_of program) owner view_of known (running s 0 result) loose active
         (first + length (parameters_under program noted given body))
         (meaning.with_parameters first (parameters_under program noted given body) []) body.block
-        (with_types first kinds names)
+        (with_types first (kinds_given s ofs) names)
 
   -- A body that is good by the rules of typing runs in a frame where what stands for its type parameters is
   -- good and the regions among these may be used, where constants stand and calls run, and where it is what
@@ -60,4 +66,4 @@ module _ (program : List ModuleParts) (noted : List NotedParts) (body : BodyOf) 
       → InScope active (region_for (value_of name s) name))
       → BesidesAll view_of loose (first + length (parameters_under program noted given body)) good.scope
       (meaning.with_parameters first (parameters_under program noted given body) []) body.block
-      → BodyRuns owner known loose active first names
+      → BodyRuns owner known loose active first s names

@@ -1,0 +1,29 @@
+-- The functions of a checked program have the whole judgement, by typing and by lives.
+use Rattle.std.specs.Prelude.{ℕ, List, Option}
+use Rattle.au_type_texts.specs.Types.{ClosedType}
+use Rattle.au_modules.specs.Programs.{ModuleParts}
+use Rattle.au_typing.specs.Trees.{NotedParts}
+use Rattle.au_running_judgements.specs.Blocks.{AllRun}
+use Rattle.au_round_programs.specs.Bodies.{CallsRunHere, ConstantsStand}
+use Rattle.au_round_programs.specs.Checked.{IsChecked}
+use Rattle.au_round_programs.specs.Generic.{generic_functions}
+use Rattle.au_round_programs.specs.Instances.{Instance}
+use Rattle.au_typed_bodies.specs.Tables.{types_of}
+use Rattle.au_running_bodies.specs.Bodies.{generics_of}
+use Rattle.au_typed_calls.specs.Keys.{Key, ways}
+
+module _ (program : List ModuleParts) (noted : List NotedParts) (owner : ClosedType → Option (List ℕ)) where
+  -- In the body of a function, in each way in which it is called, constants stand, and calls run in such ways again.
+  pub record BodiesStand : Type 0 where
+    pub constants : (key : Key program noted)
+        → ConstantsStand program noted key.body.place (generics_of program noted key.body key.one.given) key.one.given
+    pub calls : (key : Key program noted)
+        → CallsRunHere program noted key.body.place (generics_of program noted key.body key.one.given) key.one.given owner
+        (ways program noted)
+
+  -- Then each function of a checked program may be run in each of its ways, whichever numbers the first names of functions
+  -- have.
+  abbrev pub CheckedProgramsAreJudged : Type 0
+  CheckedProgramsAreJudged =
+      IsChecked program noted → BodiesStand → (first : Instance → ℕ)
+      → AllRun (types_of program) owner (ways program noted) (generic_functions program noted first)

@@ -1,0 +1,13 @@
+//! The law of the functions of checked programs, as the contract of a call that does nothing.
+
+ghost use Rattle.std.specs.Prelude.{ℕ, List, Option};
+ghost use Rattle.au_type_texts.specs.Types.{ClosedType};
+ghost use Rattle.au_modules.specs.Programs.{ModuleParts};
+ghost use Rattle.au_typing.specs.Trees.{NotedParts};
+ghost use Rattle.au_judged_programs.specs.Judged.{CheckedProgramsAreJudged};
+
+/// Each function of a checked program may be run in each of its ways, where constants stand and calls run.
+pub fn checked_programs_are_judged()
+    ensures { (program : List ModuleParts) (noted : List NotedParts) (owner : ClosedType → Option (List ℕ))
+        → CheckedProgramsAreJudged program noted owner }
+{}
