@@ -24,40 +24,40 @@ use Rattle.au_running_types.specs.Running.{region_running, running, token}
 use Rattle.au_written_types.specs.Written.{IsRegionName}
 use Rattle.au_modules.specs.Programs.{ModuleParts}
 use Rattle.au_names.specs.HeadsOf.{heads_of}
-use Rattle.au_typing.specs.Bodies.{outer_scope}
-use Rattle.au_typing.specs.Lookups.{is_free_in, parameters_in, written_type}
-use Rattle.au_typing.specs.Notes.{Note}
-use Rattle.au_typing.specs.Outsides.{outside_of}
-use Rattle.au_typing.specs.Scopes.{Outside, Scope}
-use Rattle.au_typing.specs.Trees.{NotedParts}
-use Rattle.au_typing.specs.Written.{types_at}
-use Rattle.au_closed_trees.specs.Parts.{field_under}
+use Rattle.au_judged_bodies.specs.Typing.Bodies.{outer_scope}
+use Rattle.au_judged_bodies.specs.Lookups.{is_free_in, parameters_in, written_type}
+use Rattle.au_judged_bodies.specs.Notes.{Note}
+use Rattle.au_judged_bodies.specs.Outsides.{outside_of}
+use Rattle.au_judged_bodies.specs.Scopes.{Outside, Scope}
+use Rattle.au_judged_bodies.specs.Trees.{NotedParts}
+use Rattle.au_judged_bodies.specs.Written.{types_at}
+use Rattle.au_judged_bodies.specs.ClosedTrees.Parts.{field_under}
 use Rattle.au_meaning.specs.Meanings.{scope_of}
 use Rattle.au_meaning.specs.Views.{Function}
-use Rattle.au_running_judgements.specs.Blocks.{AreFine, MayDrop, MayRun, RunsAll, with_types}
-use Rattle.au_running_judgements.specs.Known.{AreActive, InScope}
-use Rattle.au_standing_types.specs.Known.{IsKnownIn}
-use Rattle.au_standing_types.specs.Standing.{StandsFor}
-use Rattle.au_standing_types.proofs.KnownLemmas.{writes_parts}
-use Rattle.au_standing_types.proofs.NotedLemmas.{written_known}
-use Rattle.au_standing_types.proofs.StandLemmas.{free_runs}
-use Rattle.au_typed_blocks.specs.Besides.{BesidesAll}
-use Rattle.au_typed_bodies.specs.Begun.{AreMeant, kinds_given}
-use Rattle.au_typed_bodies.specs.Tables.{types_of}
-use Rattle.au_round_programs.specs.Bodies.{CallsRunHere, ConstantsStand}
-use Rattle.au_round_programs.specs.Checked.{IsChecked}
-use Rattle.au_round_programs.specs.Closing.Bodies.{BodyOf}
-use Rattle.au_round_programs.specs.Generic.{field_seen, function_under, generic_functions, view_under}
-use Rattle.au_round_programs.specs.Instances.{Instance}
-use Rattle.au_running_bodies.specs.Bodies.{BodyRuns, generics_of, view_of}
-use Rattle.au_running_bodies.proofs.BodyLemmas.{body_runs, meant_so, params_alike}
-use Rattle.au_typed_calls.specs.Keys.{Key, meant_in_body, meant_or_unit, ways, written_running}
-use Rattle.au_lived_bodies.specs.Bodies.{IsGoodFunction, sorts_in}
-use Rattle.au_lived_bodies.specs.Lived.{loose_by}
-use Rattle.au_lived_bodies.proofs.BodyLemmas.{bodies_ahead}
-use Rattle.au_asked_bodies.specs.Asked.{AreInBlock, MayDropGiven}
-use Rattle.au_asked_bodies.proofs.AskedLemmas.{bodies_asked, parameters_drop}
-use Rattle.au_checked_bodies.proofs.BodyLemmas.{bodies_good}
+use Rattle.au_judged_bodies.specs.Blocks.{AreFine, MayDrop, MayRun, RunsAll, with_types}
+use Rattle.au_judged_bodies.specs.Known.{AreActive, InScope}
+use Rattle.au_judged_bodies.specs.KnownTypes.Known.{IsKnownIn}
+use Rattle.au_judged_bodies.specs.StandingTypesStanding.{StandsFor}
+use Rattle.au_judged_bodies.proofs.KnownLemmas.{writes_parts}
+use Rattle.au_judged_bodies.proofs.NotedLemmas.{written_known}
+use Rattle.au_judged_bodies.proofs.StandingTypesStandLemmas.{free_runs}
+use Rattle.au_judged_bodies.specs.Besides.{BesidesAll}
+use Rattle.au_judged_bodies.specs.Begun.{AreMeant, kinds_given}
+use Rattle.au_judged_bodies.specs.Tables.{types_of}
+use Rattle.au_judged_programs.specs.RoundProgramsBodies.{CallsRunHere, ConstantsStand}
+use Rattle.au_judged_programs.specs.Checked.{IsChecked}
+use Rattle.au_judged_bodies.specs.Bodies.{BodyOf}
+use Rattle.au_judged_bodies.specs.Generic.{field_seen, function_under, generic_functions, view_under}
+use Rattle.au_judged_bodies.specs.Instances.{Instance}
+use Rattle.au_judged_programs.specs.RunningBodiesBodies.{BodyRuns, generics_of, view_of}
+use Rattle.au_judged_programs.proofs.RunningBodiesBodyLemmas.{body_runs, meant_so, params_alike}
+use Rattle.au_judged_bodies.specs.Keys.{Key, meant_in_body, meant_or_unit, ways, written_running}
+use Rattle.au_judged_bodies.specs.LivedBodiesBodies.{IsGoodFunction, sorts_in}
+use Rattle.au_judged_bodies.specs.Lived.{loose_by}
+use Rattle.au_judged_bodies.proofs.LivedBodiesBodyLemmas.{bodies_ahead}
+use Rattle.au_judged_bodies.specs.Asked.{AreInBlock, MayDropGiven}
+use Rattle.au_judged_bodies.proofs.AskedLemmas.{bodies_asked, parameters_drop}
+use Rattle.au_judged_programs.proofs.CheckedBodiesBodyLemmas.{bodies_good}
 use Rattle.au_judged_programs.specs.Judged.{CheckedProgramsAreJudged}
 
 all_active : (zs : List ℕ) → AreActive (λ k. true) zs

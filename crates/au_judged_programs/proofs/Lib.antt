@@ -1,1 +1,17 @@
+pub mod DefinitionLemmas
+pub mod RowLemmas
+pub mod UniverseLemmas
+pub mod FitLemmas
+pub mod BirthLemmas
+pub mod RoundLemmas
+pub mod RunningBodiesBodyLemmas
+pub mod CheckedBodiesBodyLemmas
+pub mod CheckedBodiesPlaceLemmas
+pub mod TextLemmas
+pub mod CalledBodiesBodyLemmas
+pub mod OwnLemmas
+pub mod ConstantLemmas
+pub mod DefinedLemmas
+pub mod LiteralLemmas
 pub mod JudgedLemmas
+pub mod RunLemmas

@@ -2,15 +2,15 @@
 use Rattle.std.specs.Prelude.{ℕ, List, Option}
 use Rattle.au_type_texts.specs.Types.{ClosedType}
 use Rattle.au_modules.specs.Programs.{ModuleParts}
-use Rattle.au_typing.specs.Trees.{NotedParts}
-use Rattle.au_running_judgements.specs.Blocks.{AllRun}
-use Rattle.au_round_programs.specs.Bodies.{CallsRunHere, ConstantsStand}
-use Rattle.au_round_programs.specs.Checked.{IsChecked}
-use Rattle.au_round_programs.specs.Generic.{generic_functions}
-use Rattle.au_round_programs.specs.Instances.{Instance}
-use Rattle.au_typed_bodies.specs.Tables.{types_of}
-use Rattle.au_running_bodies.specs.Bodies.{generics_of}
-use Rattle.au_typed_calls.specs.Keys.{Key, ways}
+use Rattle.au_judged_bodies.specs.Trees.{NotedParts}
+use Rattle.au_judged_bodies.specs.Blocks.{AllRun}
+use Rattle.au_judged_programs.specs.RoundProgramsBodies.{CallsRunHere, ConstantsStand}
+use Rattle.au_judged_programs.specs.Checked.{IsChecked}
+use Rattle.au_judged_bodies.specs.Generic.{generic_functions}
+use Rattle.au_judged_bodies.specs.Instances.{Instance}
+use Rattle.au_judged_bodies.specs.Tables.{types_of}
+use Rattle.au_judged_programs.specs.RunningBodiesBodies.{generics_of}
+use Rattle.au_judged_bodies.specs.Keys.{Key, ways}
 
 module _ (program : List ModuleParts) (noted : List NotedParts) (owner : ClosedType → Option (List ℕ)) where
   -- In the body of a function, in each way in which it is called, constants stand, and calls run in such ways again.

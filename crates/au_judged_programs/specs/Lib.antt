@@ -1,4 +1,11 @@
-pub use Rattle.au_typed_bodies.specs.Tables
-pub use Rattle.au_typed_calls.specs.Keys
-pub use Rattle.au_running_bodies.specs.Bodies as RunningBodies
+pub mod Checked
+pub mod Fits
+pub mod Typed
+pub mod RoundProgramsBodies
+pub mod RunningBodiesBodies
+pub mod Known
+pub mod CalledBodiesBodies
+pub mod Own
+pub mod StandingConstantsStanding
 pub mod Judged
+pub mod Runs

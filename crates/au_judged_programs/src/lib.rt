@@ -1,5 +1,15 @@
-//! The functions of a checked program have the whole judgement, where constants stand in their bodies and calls run. The
-//! crate holds definitions, in `specs/`, and laws about them.
+//! That an accepted program has the judgement, and that its runs are seen well. The crate holds definitions, in
+//! `specs/`, and a law about each step of the way.
 #![tactic(auto)]
 
-pub mod laws;
+pub mod called_bodies;
+pub mod checked;
+pub mod checked_bodies;
+pub mod checked_programs;
+pub mod judged_programs;
+pub mod own_definitions;
+pub mod round_programs;
+pub mod running_bodies;
+pub mod sound_programs;
+pub mod standing_constants;
+pub mod typed_programs;

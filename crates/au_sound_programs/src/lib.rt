@@ -1,5 +1,0 @@
-//! Runs of accepted programs are seen well, where constants stand in their bodies and calls run. The crate holds
-//! definitions, in `specs/`, and laws about them.
-#![tactic(auto)]
-
-pub mod laws;

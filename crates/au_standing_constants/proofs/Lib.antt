@@ -1,3 +1,0 @@
-mod LiteralLemmas
-mod DefinedLemmas
-pub mod ConstantLemmas
