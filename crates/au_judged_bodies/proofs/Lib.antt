@@ -1,4 +1,5 @@
 pub use Rattle.au_typing.proofs.ErasureLemmas
+pub use Rattle.au_known_types.proofs.CallLemmas
 pub use Rattle.au_known_types.proofs.KnownLemmas
 pub use Rattle.au_known_types.proofs.NotedLemmas
 pub use Rattle.au_tables.proofs.FormLemmas

@@ -1,4 +1,5 @@
 pub use Rattle.au_typing.specs.Called
+pub use Rattle.au_typing.specs.Calls
 pub use Rattle.au_typing.specs.Derivations
 pub use Rattle.au_typing.specs.Faults
 pub use Rattle.au_typing.specs.Good
@@ -12,6 +13,7 @@ pub use Rattle.au_typing.specs.Scopes
 pub use Rattle.au_typing.specs.Statements
 pub use Rattle.au_typing.specs.Trees
 pub use Rattle.au_typing.specs.Written
+pub use Rattle.au_known_types.specs.Laws
 pub use Rattle.au_closed_trees.specs.TypeNames
 pub use Rattle.au_closed_trees.specs.declared.notes.Literal
 pub use Rattle.au_tables.specs.Tables

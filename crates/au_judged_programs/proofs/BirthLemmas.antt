@@ -39,7 +39,7 @@ use Rattle.au_sound_calls.specs.Sound.{AreTyped}
 use Rattle.au_judged_bodies.specs.Tables.{BirthsAreShipped, box_text, buffer_text, is_of_births, root_text, terminal_text, types_of}
 use Rattle.au_judged_bodies.proofs.FormLemmas.{all_declared, boxes_alone, buffers_alone, cases_alone, grants_alone}
 use Rattle.au_judged_bodies.proofs.LawfulLemmas.{all_lawful}
-use Rattle.au_judged_programs.specs.Checked.{IsChecked}
+use Rattle.au_judged_programs.specs.CheckedChecked.{IsChecked}
 use Rattle.au_judged_programs.proofs.DefinitionLemmas.{definitions_fit}
 use Rattle.au_judged_programs.proofs.RowLemmas.{IsHead, head_stands}
 

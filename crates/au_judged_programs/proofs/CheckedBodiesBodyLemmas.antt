@@ -53,7 +53,7 @@ use Rattle.au_judged_bodies.specs.Bodies.{BodyOf, body_in, body_of, is_method, m
 use Rattle.au_judged_bodies.specs.Instances.{Instance}
 use Rattle.au_closing_laws.proofs.GenericsLemmas.{body_stands, erased_there}
 use Rattle.au_meaning.specs.Views.{Field, Function}
-use Rattle.au_judged_programs.specs.Checked.{IsChecked}
+use Rattle.au_judged_programs.specs.CheckedChecked.{IsChecked}
 use Rattle.au_judged_bodies.specs.LivedBodiesBodies.{IsGoodFunction}
 use Rattle.au_judged_programs.specs.Known.{CheckedBodiesAreGood, IsKnownWell}
 use Rattle.au_judged_programs.proofs.CheckedBodiesPlaceLemmas.{good_of_body, spot_of_body}

@@ -44,7 +44,7 @@ use Rattle.au_closing_laws.proofs.FactLemmas.{parts_hold}
 use Rattle.au_judged_bodies.specs.Generic.{constant_of}
 use Rattle.au_judged_bodies.specs.Surroundings.{literal_value}
 use Rattle.au_memory.specs.Shown.{IsPlain}
-use Rattle.au_judged_programs.specs.Checked.{IsChecked}
+use Rattle.au_judged_programs.specs.CheckedChecked.{IsChecked}
 use Rattle.au_judged_programs.specs.StandingConstantsStanding.{ConstantsOfProgramsStand}
 use Rattle.au_judged_programs.proofs.DefinedLemmas.{defined_fits, good_of_body, none_promised}
 use Rattle.au_judged_programs.proofs.DefinedLemmas.{type_written}

@@ -46,7 +46,7 @@ use Rattle.au_judged_bodies.specs.KnownTypes.Known.{IsDeclared}
 use Rattle.au_known_programs.specs.Programs.{DeclarationsFit}
 use Rattle.au_judged_bodies.specs.OnceFieldsApart.{IsApart}
 use Rattle.au_judged_bodies.proofs.OnceFieldsApartLemmas.{fields_once}
-use Rattle.au_judged_programs.specs.Checked.{IsChecked}
+use Rattle.au_judged_programs.specs.CheckedChecked.{IsChecked}
 use Rattle.au_judged_programs.proofs.DefinitionLemmas.{found_passes, in_part, standing_made}
 
 -- ---- accepted programs

@@ -45,7 +45,7 @@ use Rattle.au_judged_bodies.specs.Besides.{BesidesAll}
 use Rattle.au_judged_bodies.specs.Begun.{AreMeant, kinds_given}
 use Rattle.au_judged_bodies.specs.Tables.{types_of}
 use Rattle.au_judged_programs.specs.RoundProgramsBodies.{CallsRunHere, ConstantsStand}
-use Rattle.au_judged_programs.specs.Checked.{IsChecked}
+use Rattle.au_judged_programs.specs.CheckedChecked.{IsChecked}
 use Rattle.au_judged_bodies.specs.Bodies.{BodyOf}
 use Rattle.au_judged_bodies.specs.Generic.{field_seen, function_under, generic_functions, view_under}
 use Rattle.au_judged_bodies.specs.Instances.{Instance}

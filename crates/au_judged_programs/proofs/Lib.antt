@@ -15,3 +15,5 @@ pub mod DefinedLemmas
 pub mod LiteralLemmas
 pub mod JudgedLemmas
 pub mod RunLemmas
+pub mod CallLemmas
+pub mod CheckedLemmas

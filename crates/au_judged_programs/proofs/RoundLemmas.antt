@@ -43,7 +43,7 @@ use Rattle.au_judged_bodies.proofs.SeenLemmas.{union_case}
 use Rattle.au_judged_bodies.specs.Views.{DefinitionsAreApart, EachCaseIsKnown}
 use Rattle.au_judged_bodies.proofs.ViewLemmas.{record_viewed, union_viewed}
 use Rattle.au_judged_bodies.specs.Rounds.{RoundFits}
-use Rattle.au_judged_programs.specs.Checked.{IsChecked}
+use Rattle.au_judged_programs.specs.CheckedChecked.{IsChecked}
 use Rattle.au_judged_programs.proofs.DefinitionLemmas.{definitions_fit}
 use Rattle.au_judged_programs.proofs.FitLemmas.{declarations_fit, definitions_apart}
 use Rattle.au_judged_programs.specs.RoundProgramsBodies.{CallsRunHere, ConstantsStand}

@@ -4,7 +4,7 @@ use Rattle.au_type_texts.specs.Types.{ClosedType}
 use Rattle.au_modules.specs.Programs.{ModuleParts}
 use Rattle.au_judged_bodies.specs.Trees.{NotedParts}
 use Rattle.au_judged_bodies.specs.Generic.{generic_functions}
-use Rattle.au_judged_programs.specs.Checked.{IsChecked}
+use Rattle.au_judged_programs.specs.CheckedChecked.{IsChecked}
 use Rattle.au_judged_programs.proofs.BirthLemmas.{checked_typed}
 use Rattle.au_judged_bodies.specs.Keys.{ways}
 use Rattle.au_judged_bodies.specs.Tables.{types_of}

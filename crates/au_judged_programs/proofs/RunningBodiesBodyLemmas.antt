@@ -48,7 +48,7 @@ use Rattle.au_judged_bodies.specs.Begun.{AreMeant, BodyBegins, fields_given, kin
 use Rattle.au_judged_bodies.proofs.TypedBodiesBodyLemmas.{body_begins}
 use Rattle.au_judged_programs.specs.RoundProgramsBodies.{CallsRunHere, ConstantsStand}
 use Rattle.au_judged_programs.proofs.RoundLemmas.{round_fits}
-use Rattle.au_judged_programs.specs.Checked.{IsChecked}
+use Rattle.au_judged_programs.specs.CheckedChecked.{IsChecked}
 use Rattle.au_judged_programs.proofs.DefinitionLemmas.{definitions_fit}
 use Rattle.au_judged_programs.proofs.FitLemmas.{declarations_fit}
 use Rattle.au_judged_programs.specs.RunningBodiesBodies.{BodyRuns, generics_of, view_of}

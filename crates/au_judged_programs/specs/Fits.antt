@@ -11,7 +11,7 @@ use Rattle.au_judged_bodies.specs.OnceFieldsApart.{IsApart}
 use Rattle.au_names.specs.Standing.{Standing, definition_of}
 use Rattle.au_types.specs.declared.types.DeclAt.{DeclAt}
 use Rattle.std.specs.Prelude.{◌≡◌, Some}
-use Rattle.au_judged_programs.specs.Checked.{IsChecked}
+use Rattle.au_judged_programs.specs.CheckedChecked.{IsChecked}
 
 -- An accepted program is checked, with its notes.
 abbrev pub AcceptedAreChecked : Type 0

@@ -5,7 +5,7 @@ use Rattle.au_modules.specs.Programs.{ModuleParts}
 use Rattle.au_judged_bodies.specs.Trees.{NotedParts}
 use Rattle.au_judged_bodies.specs.Blocks.{AllRun}
 use Rattle.au_judged_programs.specs.RoundProgramsBodies.{CallsRunHere, ConstantsStand}
-use Rattle.au_judged_programs.specs.Checked.{IsChecked}
+use Rattle.au_judged_programs.specs.CheckedChecked.{IsChecked}
 use Rattle.au_judged_bodies.specs.Generic.{generic_functions}
 use Rattle.au_judged_bodies.specs.Instances.{Instance}
 use Rattle.au_judged_bodies.specs.Tables.{types_of}

@@ -9,7 +9,7 @@ use Rattle.au_judged_bodies.specs.Bodies.{BodyOf, body_of}
 use Rattle.au_judged_bodies.specs.Instances.{Instance}
 use Rattle.au_judged_bodies.specs.Generic.{function_under, generic_functions}
 use Rattle.au_meaning.specs.Views.{Function}
-use Rattle.au_judged_programs.specs.Checked.{IsChecked}
+use Rattle.au_judged_programs.specs.CheckedChecked.{IsChecked}
 use Rattle.au_judged_bodies.specs.LivedBodiesBodies.{IsGoodFunction}
 use Rattle.au_judged_bodies.specs.Asked.{AreInBlock}
 

@@ -1,4 +1,4 @@
-pub mod Checked
+pub mod CheckedChecked
 pub mod Fits
 pub mod Typed
 pub mod RoundProgramsBodies
@@ -9,3 +9,5 @@ pub mod Own
 pub mod StandingConstantsStanding
 pub mod Judged
 pub mod Runs
+pub mod Programs
+pub mod CheckedCallsChecked

@@ -27,7 +27,7 @@ use Rattle.au_judged_bodies.specs.StandingTypesStanding.{StandsFor}
 use Rattle.au_judged_bodies.specs.Frames.{FrameFits}
 use Rattle.au_judged_bodies.specs.TypedRunsLaws.{CallsRun}
 use Rattle.au_judged_bodies.specs.Rounds.{RoundFits}
-use Rattle.au_judged_programs.specs.Checked.{IsChecked}
+use Rattle.au_judged_programs.specs.CheckedChecked.{IsChecked}
 
 module _ (program : List ModuleParts) (noted : List NotedParts) (place : ℕ) (generics : List Bounded) (given : Given) where
   -- The constants that are seen in a body have values of their types, none of which is a record or a

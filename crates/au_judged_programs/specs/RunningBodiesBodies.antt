@@ -28,7 +28,7 @@ use Rattle.au_judged_bodies.specs.StandingTypesStanding.{StandsFor}
 use Rattle.au_judged_bodies.specs.Begun.{AreMeant, kinds_given}
 use Rattle.au_judged_bodies.specs.Besides.{BesidesAll}
 use Rattle.au_judged_programs.specs.RoundProgramsBodies.{CallsRunHere, ConstantsStand}
-use Rattle.au_judged_programs.specs.Checked.{IsChecked}
+use Rattle.au_judged_programs.specs.CheckedChecked.{IsChecked}
 
 module _ (program : List ModuleParts) (noted : List NotedParts) (body : BodyOf) (given : Given) where
   -- the type parameters of a body, and its view

@@ -4,7 +4,7 @@ use Rattle.au_judged_types.specs.Bounds.{Bounded}
 use Rattle.au_type_texts.specs.Given.{Given}
 use Rattle.au_modules.specs.Programs.{ModuleParts}
 use Rattle.au_judged_bodies.specs.Trees.{NotedParts}
-use Rattle.au_judged_programs.specs.Checked.{IsChecked}
+use Rattle.au_judged_programs.specs.CheckedChecked.{IsChecked}
 use Rattle.au_judged_programs.specs.RoundProgramsBodies.{ConstantsStand}
 
 -- In a checked program the constants stand that are seen in the body of the module at a place, whatever is

@@ -4,7 +4,7 @@ use Rattle.au_modules.specs.Programs.{ModuleParts}
 use Rattle.au_judged_bodies.specs.Trees.{NotedParts}
 use Rattle.au_judged_bodies.specs.Tables.{BirthsAreShipped, types_of}
 use Rattle.au_sound_calls.specs.Sound.{AreTyped}
-use Rattle.au_judged_programs.specs.Checked.{IsChecked}
+use Rattle.au_judged_programs.specs.CheckedChecked.{IsChecked}
 
 -- In a checked program the types whose values have births are the shipped ones: Linear, and without a
 -- definition.

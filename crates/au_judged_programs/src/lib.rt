@@ -3,8 +3,10 @@
 #![tactic(auto)]
 
 pub mod called_bodies;
+pub mod calls_run;
 pub mod checked;
 pub mod checked_bodies;
+pub mod checked_calls;
 pub mod checked_programs;
 pub mod judged_programs;
 pub mod own_definitions;

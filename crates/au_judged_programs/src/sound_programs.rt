@@ -5,7 +5,7 @@ ghost use Rattle.au_base.specs.Outside.{Files};
 ghost use Rattle.au_type_texts.specs.Types.{ClosedType};
 ghost use Rattle.au_modules.specs.Programs.{ModuleParts};
 ghost use Rattle.au_judged_bodies.specs.Trees.{NotedParts};
-ghost use Rattle.au_judged_programs.specs.Checked.{IsChecked};
+ghost use Rattle.au_judged_programs.specs.CheckedChecked.{IsChecked};
 ghost use Rattle.au_closing_laws.specs.Accepted.{AreAcceptedAs};
 ghost use Rattle.au_closing_laws.specs.Programs.{program_modules};
 ghost use Rattle.au_closing_laws.specs.Trees.{ReadFile};
