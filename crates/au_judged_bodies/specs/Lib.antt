@@ -18,6 +18,7 @@ pub use Rattle.au_closed_trees.specs.TypeNames
 pub use Rattle.au_closed_trees.specs.declared.notes.Literal
 pub use Rattle.au_tables.specs.Tables
 pub use Rattle.au_closing.specs.Bodies
+pub use Rattle.au_closing.specs.Entries
 pub use Rattle.au_closing.specs.Instances
 pub use Rattle.au_closing.specs.Leading
 pub use Rattle.au_running_lives.specs.Blocks

@@ -53,7 +53,7 @@ abbrev rest_bytes : List ℕ → List ℕ
 rest_bytes [] = []
 rest_bytes (b ∷ rest) = rest
 
-abbrev is_plain : ℕ → Bool
+abbrev pub is_plain : ℕ → Bool
 is_plain b = not (b == 58)
 
 plain_colon : (b : ℕ) → 58 ≡ b → is_plain b ≡ true → ⊥
@@ -65,7 +65,7 @@ with_colon [] b e = true≢false (sym (and_parts (is_plain 58) (list_all is_plai
 with_colon (x ∷ a) b e = with_colon a b (and_parts (is_plain x) (list_all is_plain (a ++ 58 ∷ b)) e).1
 
 -- what stands before the one colon of a text
-before_colon : (a b p q : Bytes) → list_all is_plain p ≡ true → list_all is_plain q ≡ true
+pub before_colon : (a b p q : Bytes) → list_all is_plain p ≡ true → list_all is_plain q ≡ true
     → a ++ 58 ∷ b ≡ p ++ 58 ∷ q → a ≡ p
 before_colon [] b [] q np nq e = refl
 before_colon [] b (x ∷ p) q np nq e =
@@ -78,7 +78,7 @@ before_colon (y ∷ a) b (x ∷ p) q np nq e =
 
 -- ---- the shipped files
 
-abbrev shipped : List Entry
+abbrev pub shipped : List Entry
 shipped = map entry_of shipped_files
 
 -- a declared type of a shipped file, if it has births, is opaque and Linear
@@ -99,7 +99,7 @@ are_fine e = list_all (is_fine e) e.tree.declarations
 all_fine : list_all are_fine shipped ≡ true
 all_fine = refl
 
-abbrev has_name : Bytes → Entry → Bool
+abbrev pub has_name : Bytes → Entry → Bool
 has_name name e = bytes_eq name (joined e.tree.name)
 
 -- the file of a shipped module
@@ -124,10 +124,10 @@ among_index {A} (y ∷ ys) x (inl here) = (0, ap (λ (z : A). Some z) here)
 among_index (y ∷ ys) x (inr later) = let its = among_index ys x later in (suc its.0, its.1)
 
 -- a text of what has births is of a shipped module
-abbrev IsOfShipped : Bytes → Type 0
+abbrev pub IsOfShipped : Bytes → Type 0
 IsOfShipped owner = list_any (has_name owner) shipped ≡ true
 
-of_shipped : (owner name p q : Bytes) → list_all is_plain p ≡ true → list_all is_plain q ≡ true
+pub of_shipped : (owner name p q : Bytes) → list_all is_plain p ≡ true → list_all is_plain q ≡ true
     → list_any (has_name p) shipped ≡ true → owner ++ 58 ∷ name ≡ p ++ 58 ∷ q → IsOfShipped owner
 of_shipped owner name p q np nq there e =
     subst (λ x. list_any (has_name x) shipped ≡ true) (sym (before_colon owner name p q np nq e)) there
@@ -191,11 +191,11 @@ unfolding standing_from
 no_body place d name = refl
 
 module _ (program : List ModuleParts) (noted : List NotedParts) (checked : IsChecked program noted) where
-  abbrev own : List Entry
+  abbrev pub own : List Entry
   own = checked.gathered.own
 
   -- a module of the user's has no name of a shipped one
-  own_named : (e : Entry) → Among e own → IsOfShipped (joined e.tree.name) → ⊥
+  pub own_named : (e : Entry) → Among e own → IsOfShipped (joined e.tree.name) → ⊥
   own_named e among there =
       let f = found_any (has_name (joined e.tree.name)) shipped there in
       let at = contains own e among in

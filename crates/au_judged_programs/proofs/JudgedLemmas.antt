@@ -44,11 +44,12 @@ use Rattle.au_judged_bodies.proofs.StandingTypesStandLemmas.{free_runs}
 use Rattle.au_judged_bodies.specs.Besides.{BesidesAll}
 use Rattle.au_judged_bodies.specs.Begun.{AreMeant, kinds_given}
 use Rattle.au_judged_bodies.specs.Tables.{types_of}
-use Rattle.au_judged_programs.specs.RoundProgramsBodies.{CallsRunHere, ConstantsStand}
+use Rattle.au_judged_programs.specs.RoundProgramsBodies.{CallsRunHere}
 use Rattle.au_judged_programs.specs.CheckedChecked.{IsChecked}
 use Rattle.au_judged_bodies.specs.Bodies.{BodyOf}
 use Rattle.au_judged_bodies.specs.Generic.{field_seen, function_under, generic_functions, view_under}
 use Rattle.au_judged_bodies.specs.Instances.{Instance}
+use Rattle.au_judged_programs.proofs.ConstantLemmas.{constants_of_programs_stand}
 use Rattle.au_judged_programs.specs.RunningBodiesBodies.{BodyRuns, generics_of, view_of}
 use Rattle.au_judged_programs.proofs.RunningBodiesBodyLemmas.{body_runs, meant_so, params_alike}
 use Rattle.au_judged_bodies.specs.Keys.{Key, meant_in_body, meant_or_unit, ways, written_running}
@@ -185,12 +186,12 @@ module _ (program : List ModuleParts) (noted : List NotedParts) (owner : ClosedT
       (function.first + length function.parameters) good.0.body.scope (scope_of function) key.body.block) (sym alike)
       (bodies_asked function outside key.body.generics key.body.header good.0 good.1)
 
-  module _ (constants : ConstantsStand program noted key.body.place generics given)
-      (calls : CallsRunHere program noted key.body.place generics given owner (ways program noted)) where
+  module _ (calls : CallsRunHere program noted key.body.place generics given owner (ways program noted)) where
     runs_at : (active : ℕ → Bool) → AreActive active key.tokens
         → BodyRuns program noted key.body given owner (ways program noted) loose active (first key.one) key.s (λ k. unit)
     runs_at active are =
-        body_runs program noted key.body given owner (ways program noted) checked good.0.body constants calls loose active
+        body_runs program noted key.body given owner (ways program noted) checked good.0.body
+        (constants_of_programs_stand program noted checked key.body.place generics given) calls loose active
         (first key.one) key.s (λ k. unit) stands (opened active are) besides
 
     abbrev Run : (ℕ → Bool) → List Parameter → List Meaning → Meaning → Type 0
@@ -229,8 +230,8 @@ module _ (program : List ModuleParts) (noted : List NotedParts) (owner : ClosedT
 
 pub programs_judged : (program : List ModuleParts) (noted : List NotedParts) (owner : ClosedType → Option (List ℕ))
     → CheckedProgramsAreJudged program noted owner
-programs_judged program noted owner checked stand first key = (
+programs_judged program noted owner checked calls first key = (
   function program noted owner checked first key,
   there program noted owner checked first key,
-  may_run program noted owner checked first key (stand.constants key) (stand.calls key),
+  may_run program noted owner checked first key (calls key),
 )

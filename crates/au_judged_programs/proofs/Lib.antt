@@ -17,3 +17,5 @@ pub mod JudgedLemmas
 pub mod RunLemmas
 pub mod CallLemmas
 pub mod CheckedLemmas
+pub mod EntryLemmas
+pub mod TypeLemmas

@@ -15,7 +15,7 @@ use Rattle.au_judged_programs.specs.Runs.{RunsAreSeenWell}
 
 pub runs_well_seen : (program : List ModuleParts) (noted : List NotedParts) (owner : ClosedType → Option (List ℕ))
     → IsChecked program noted → RunsAreSeenWell program noted owner
-runs_well_seen program noted owner checked stand first =
+runs_well_seen program noted owner checked calls first =
     runs_well (types_of program) owner (runs_are_safe (types_of program) owner (checked_typed program noted checked))
     (ways program noted) (generic_functions program noted first)
-    (programs_judged program noted owner checked stand first)
+    (programs_judged program noted owner checked calls first)

@@ -11,3 +11,4 @@ pub mod Judged
 pub mod Runs
 pub mod Programs
 pub mod CheckedCallsChecked
+pub mod Entries

@@ -1,4 +1,4 @@
-//! Runs of accepted programs are seen well, where constants stand in their bodies and calls run.
+//! Runs of accepted programs are seen well, where calls run in the bodies of functions.
 
 ghost use Rattle.std.specs.Prelude.{ℕ, List, Option};
 ghost use Rattle.au_base.specs.Outside.{Files};
@@ -11,7 +11,7 @@ ghost use Rattle.au_closing_laws.specs.Programs.{program_modules};
 ghost use Rattle.au_closing_laws.specs.Trees.{ReadFile};
 ghost use Rattle.au_judged_programs.specs.Runs.{RunsAreSeenWell};
 
-/// Every run of an accepted program from an entry is seen well, where constants stand and calls run.
+/// Every run of an accepted program from an entry is seen well, where calls run in the bodies of functions.
 pub fn accepted_programs_run_well()
     ensures checked { (program : List ModuleParts) (noted : List NotedParts) (owner : ClosedType → Option (List ℕ))
         → IsChecked program noted → RunsAreSeenWell program noted owner }
