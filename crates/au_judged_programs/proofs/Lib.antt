@@ -15,7 +15,8 @@ pub mod DefinedLemmas
 pub mod LiteralLemmas
 pub mod JudgedLemmas
 pub mod RunLemmas
-pub mod CallLemmas
+pub mod CallsRunCallLemmas
 pub mod CheckedLemmas
+pub mod SoundEntriesCallLemmas
 pub mod EntryLemmas
 pub mod TypeLemmas

@@ -1,4 +1,4 @@
-use Rattle.au_judged_programs.proofs.CallLemmas.{all_run}
+use Rattle.au_judged_programs.proofs.CallsRunCallLemmas.{all_run}
 use Rattle.au_judged_programs.proofs.calls_run.calls_run.Goals as goal
 
 pub returns : goal.returns
