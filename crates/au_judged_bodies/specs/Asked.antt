@@ -23,9 +23,9 @@ abbrev pub AreInBlock : List Mark → List (Constrained Bytes) → Type 0
 AreInBlock before [] = Unit {0}
 AreInBlock before (p ∷ rest) = IsInBlock before Types p.parameter.name.name × AreInBlock before rest
 
--- Where the type parameters of a good function are declared before its text, nothing is consumed in its body where
--- an expression may leave out to look, the region of each borrow statement is new, and a name may be dropped only
--- where its type allows it.
+-- Where the type parameters of a good function are declared before its text, nothing is consumed in its body
+-- where an expression may leave out to look, the region of each borrow statement is new, and a name may be
+-- dropped only where its type allows it.
 abbrev pub BodiesAreAsked : {I : Type 0} → Function I Note (Unit {0}) → Type 0
 BodiesAreAsked f =
     (outside : Outside) (generics : List (Constrained Bytes)) (header : Header Bytes)

@@ -49,7 +49,8 @@ module _ (types : Types) (owner : ClosedType → Option (List ℕ)) {I K : Type 
       (params : List (Labelled Bytes)) (scope : Scope) : Type 0 where
     pub ofs : List Meaning
     pub are : AreMeant outer params ofs
-    pub place : PlaceFits types owner see known given Stands (running s 0 scope.result) active (first + length ofs) scope
+    pub place : PlaceFits types owner see known given Stands (running s 0 scope.result) active
+        (first + length ofs) scope
         (meaning.with_parameters first (fields_given given params ofs) []) s
         (with_types first (kinds_given s ofs) names)
 
@@ -63,4 +64,5 @@ module _ (types : Types) (owner : ClosedType → Option (List ℕ)) {I K : Type 
       → (active : ℕ → Bool) (first : ℕ) (s : Bindings) (names : ℕ → Meaning) → Stands s
       → ((name : List ℕ) → IsRegionName [] (parameters (generics_in outside generics)) name
       → InScope active (region_for (value_of name s) name))
-      → BodyBegins active first s names (outer_scope outside (generics_in outside generics)) header.parameters scope
+      → BodyBegins active first s names
+      (outer_scope outside (generics_in outside generics)) header.parameters scope

@@ -35,13 +35,15 @@ module _ {I : Type 0} (see : View I Note (Unit {0})) (loose : ℕ → Bool) wher
   -- a name of a type is dropped only where this is Free, or one of references that write
   abbrev pub MayDropIn : Scope → ℕ → Meaning → Type 0
   MayDropIn sc number t =
-      loose number ≡ true → (is_free_in sc t ≡ true) ⊎ ((of : Meaning) × (region : Region) × (t ≡ writes of region))
+      loose number ≡ true → (is_free_in sc t ≡ true) ⊎
+      ((of : Meaning) × (region : Region) × (t ≡ writes of region))
 
   -- so it is of fields that are bound by names from one on
   abbrev pub MayDropEach : Scope → ℕ → List (Bound Bytes) → Type 0
   MayDropEach sc number [] = Unit {0}
   MayDropEach sc number (b ∷ rest) =
-      ((of : Meaning) → written_type sc b.of ≡ Ok of → MayDropIn sc number of) × MayDropEach sc (suc number) rest
+      ((of : Meaning) → written_type sc b.of ≡ Ok of → MayDropIn sc number of)
+      × MayDropEach sc (suc number) rest
 
   abbrev mutual
     pub Besides : ℕ → Scope → meaning.Scope → NotedStatement → Type 0
@@ -54,7 +56,8 @@ module _ {I : Type 0} (see : View I Note (Unit {0})) (loose : ℕ → Bool) wher
     Besides number sc scope (conditional at tests) = BesidesTests number sc scope tests
     Besides number sc scope (conditional_else at tests block) =
         BesidesTests number sc scope tests × BesidesAll (number + meaning.names_in_tests tests) sc scope block
-    Besides number sc scope (case_of at e all) = Keeps see scope e × BesidesArms number sc scope (note_of e) all
+    Besides number sc scope (case_of at e all) = Keeps see scope e
+        × BesidesArms number sc scope (note_of e) all
     Besides number sc scope (while_loop at e block) = Keeps see scope e × BesidesAll number sc scope block
     Besides number sc scope (for_loop at name first last block) =
         Keeps see scope first × Keeps see scope last
@@ -62,7 +65,8 @@ module _ {I : Type 0} (see : View I Note (Unit {0})) (loose : ℕ → Bool) wher
         (meant.with_counter see number name.name first scope) block
     Besides number sc scope (borrow_in at access x r region block stop) =
         IsNewRegion sc region.name × ((of : Meaning) → IsLent sc (mode_for access) x.name of
-        → BesidesAll (number + 1) (with_reference r.name region.name (borrow_type (mode_for access) region.name of) sc)
+        → BesidesAll (number + 1)
+        (with_reference r.name region.name (borrow_type (mode_for access) region.name of) sc)
         (meaning.with_reference (meaning.mode_of access) (meaning.variable_of scope x.name) number r.name scope) block)
     Besides number sc scope (borrow_typed at r t mode x block stop) =
         (region : Bytes) (of : Meaning) → GoodBorrow sc t mode x.name region of

@@ -24,7 +24,8 @@ use Rattle.au_running_lives.specs.Known.{InScope}
 abbrev pub field_closed : Given → Typed → Field
 field_closed given one = record { name = one.name; of = closed_under given one.of }
 
-module _ (types : Types) {I : Type 0} (see : View I Note (Unit {0})) (s : Bindings) (given : Given) (z : ℕ) where
+module _ (types : Types) {I : Type 0} (see : View I Note (Unit {0})) (s : Bindings) (given : Given)
+    (z : ℕ) where
   -- the fields of a record are seen as they are written: it has one case
   pub record RecordIsSeen (t : Meaning) (fields : List Typed) : Type 0 where
     pub closed : see.fields (closed_under given t) 0 ≡ Some (map (field_closed given) fields)
@@ -45,7 +46,8 @@ module _ (types : Types) {I : Type 0} (see : View I Note (Unit {0})) (names : �
     pub known : ScopeIsKnown sc
     pub here : active z ≡ true
     pub noted : (n : Note) → see.type_of n ≡ Some (closed_under given n.of)
-    pub copied : (n : Note) → IsKnownIn sc n.of → see.is_free n ≡ true → types.is_free (running s z n.of) ≡ true
+    pub copied : (n : Note) → IsKnownIn sc n.of → see.is_free n ≡ true → types.is_free (running s z n.of)
+        ≡ true
     pub free : (t : Meaning) → IsKnownIn sc t → is_free_in sc t ≡ true → types.is_free (running s z t) ≡ true
     pub readers : (t : Meaning) (region : Region) → types.is_free (reads t region) ≡ true
     pub variables : (name : Bytes) (v : Variable) → variable_of sc name ≡ Some v → VariableIsThere name v.of

@@ -45,41 +45,47 @@ module _ (program : List ModuleParts) where
   EachMeans body [] (one ∷ rest) = ⊥
   EachMeans body (w ∷ ws) [] = ⊥
 
-  -- A body is that of what is called by the rules: it has the type parameters, the parameters and the result of this.
+  -- A body is that of what is called by the rules: it has the type parameters, the parameters and the result
+  -- of this.
   pub record IsBodyOf (body : BodyOf) (called : Callable) : Type 0 where
     pub over : written_params body.generics ≡ parameters called.generics
     pub takes : EachMeans body body.header.parameters called.parameters
     pub gives : meant_in_body program body body.header.result ≡ Some called.result
 
--- What is called is declared as it may be: its parameters are apart, and their types and that of its result are such as it
--- could write itself.
+-- What is called is declared as it may be: its parameters are apart, and their types and that of its result
+-- are such as it could write itself.
 pub record IsDeclaredWell (program : List ModuleParts) (called : Callable) : Type 0 where
   pub apart : AreApart (names_of called.parameters)
   pub takes : EachIsDeclared (heads_of program) (parameters called.generics) called.parameters
   pub gives : IsDeclared (heads_of program) (parameters called.generics) called.result
 
 -- What stands for a body's type parameters, where it runs, and which regions may be used.
-pub record BodyRuns (program : List ModuleParts) (params : List Parameter) (regions : List Bytes) (given : Given)
+pub record BodyRuns (program : List ModuleParts) (params : List Parameter) (regions : List Bytes)
+    (given : Given)
     (s : Bindings) (z : ℕ) (active : ℕ → Bool) : Type 0 where
   pub stands : StandsFor (heads_of program) params given s
   pub here : active z ≡ true
   pub opened : (name : List ℕ) → IsRegionName regions params name
       → InScope active (region_for (value_of name s) name)
 
-module _ (types : Types) (owner : ClosedType → Option (List ℕ)) (program : List ModuleParts) (trees : List NotedParts)
+module _ (types : Types) (owner : ClosedType → Option (List ℕ)) (program : List ModuleParts)
+    (trees : List NotedParts)
     (place : ℕ) (params : List Parameter) (regions : List Bytes) (given : Given) (s : Bindings) (z : ℕ)
     (active : ℕ → Bool) where
-  -- A call of a name that means a function which isn't shipped, and whose body is that of what is called, is seen to call it
-  -- in one of its ways.
+  -- A call of a name that means a function which isn't shipped, and whose body is that of what is called, is
+  -- seen to call it in one of its ways.
   abbrev pub FunctionsAreSeen : Type 0
   FunctionsAreSeen =
-      (note : Note) (name : Bytes) (target : Target) (d : Standing) (declared : Bytes) (called : Callable) (put : Bindings)
+      (note : Note) (name : Bytes) (target : Target) (d : Standing) (declared : Bytes) (called : Callable)
+      (put : Bindings)
       (body : BodyOf) → find name (seen_at Callables program place Body) ≡ Some target
       → standing_at program target.at ≡ Some d
       → called_of target.name d.says ≡ Some (a_function declared (type_names (parameters called.generics)))
       → prim_of (module_name program target.at.«module») declared None ≡ None
-      → body_of program trees target ≡ Some body → IsBodyOf program body called → IsDeclaredWell program called
+      → body_of program trees target ≡ Some body → IsBodyOf program body called
+      → IsDeclaredWell program called
       → note.call ≡ Some put → note.of ≡ substituted put called.result
       → IsPut (heads_of program) params regions (parameters called.generics) put
-      → CallIsSeen types owner (view_under program trees place params given) (ways program trees) active s z note name
+      → CallIsSeen types owner (view_under program trees place params given)
+      (ways program trees) active s z note name
       called put

@@ -34,9 +34,10 @@ module _ (program : List ModuleParts) where
   written_running body s t = running s 0 (meant_or_unit (meant_in_body body t))
 
 module _ (program : List ModuleParts) (trees : List NotedParts) where
-  -- A way in which a function, or a method of an instance of a class, is called: its instance, of which the body is there;
-  -- what stands for the type parameters of this, which closes to what the instance gives for them; and tokens, while which
-  -- are active what stands for the regions among the type parameters may be used.
+  -- A way in which a function, or a method of an instance of a class, is called: its instance, of which the
+  -- body is there; what stands for the type parameters of this, which closes to what the instance gives for
+  -- them; and tokens, while which are active what stands for the regions among the type parameters may be
+  -- used.
   pub record Key : Type 0 where
     pub one : Instance
     pub body : BodyOf
@@ -47,7 +48,8 @@ module _ (program : List ModuleParts) (trees : List NotedParts) where
     pub regions : (active : ℕ → Bool) → AreActive active tokens
         → RegionsStand active (written_params body.generics) s
 
-  -- what is known of these ways: the function, the running types of its parameters and of its result, and the tokens
+  -- what is known of these ways: the function, the running types of its parameters and of its result, and the
+  -- tokens
   abbrev pub ways : Callables Instance Key
   ways = record {
     of = λ key. key.one;

@@ -34,7 +34,8 @@ use Rattle.au_judged_bodies.specs.Sights.{CallIsSeen}
 abbrev pub OwnTypesAreDefined : List ModuleParts → Type 0
 OwnTypesAreDefined program =
     (at : DeclAt) (d : Standing) (name : Bytes) (own : DeclAt) → standing_at program at ≡ Some d
-    → whole_name d.says ≡ Some name → type_number program d.place name ≡ Some own → definition_of program own ≡ Some d
+    → whole_name d.says ≡ Some name → type_number program d.place name ≡ Some own
+    → definition_of program own ≡ Some d
 
 -- No two cases of a definition have one name, and no two fields of one case.
 abbrev pub DefinitionsAreApart : List ModuleParts → Type 0
@@ -44,15 +45,18 @@ DefinitionsAreApart program =
 module _ (program : List ModuleParts) (trees : List NotedParts) (place : ℕ) (params : List Parameter)
     (regions : List Bytes) (given : Given) (s : Bindings) (z : ℕ) {K : Type 0} (known : Keys Instance K)
     (active : ℕ → Bool) where
-  -- A call of a name that means a record, or a case of a union, is seen to make a value of it, where it puts something for
-  -- each type parameter and its own type is known.
+  -- A call of a name that means a record, or a case of a union, is seen to make a value of it, where it puts
+  -- something for each type parameter and its own type is known.
   abbrev pub MakersAreSeen : Type 0
   MakersAreSeen =
-      (note : Note) (name : Bytes) (target : Target) (d : Standing) (type : Bytes) (called : Callable) (put : Bindings)
-      → find name (seen_at Callables program place Body) ≡ Some target → standing_at program target.at ≡ Some d
+      (note : Note) (name : Bytes) (target : Target) (d : Standing) (type : Bytes) (called : Callable)
+      (put : Bindings)
+      → find name (seen_at Callables program place Body) ≡ Some target → standing_at program target.at
+      ≡ Some d
       → whole_name d.says ≡ Some type → declared_callable program d target.at target.name d.says ≡ Some called
       → EachIsDeclared (heads_of program) (parameters called.generics) called.parameters
       → note.of ≡ substituted put called.result → IsKnown (heads_of program) params regions note.of
       → ((t : Meaning) → IsWritten [] (parameters called.generics) t → Fixes put t)
-      → CallIsSeen (types_of program) (owner_of program) (view_under program trees place params given) known active s z
+      → CallIsSeen (types_of program) (owner_of program)
+      (view_under program trees place params given) known active s z
       note name called put

@@ -31,6 +31,7 @@ IsApart other = Unit {0}
 -- Where no name of a program is declared again, it is so for each of its declarations.
 abbrev pub FieldsAreOnce : Type 0
 FieldsAreOnce =
-    (program : List ModuleParts) → AllNamesAreOnce program → (place : ℕ) (m : ModuleParts) (part : Part) (i : ℕ)
+    (program : List ModuleParts) → AllNamesAreOnce program
+    → (place : ℕ) (m : ModuleParts) (part : Part) (i : ℕ)
     (d : PlainDeclaration) → slice_get program place ≡ Some m
     → slice_get (declarations_in (part_of part m)) i ≡ Some d → IsApart d

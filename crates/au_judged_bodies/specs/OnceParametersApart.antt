@@ -29,6 +29,7 @@ ParametersAreApart other = Unit {0}
 -- Where no name of a program is declared again, it is so for each of its declarations.
 abbrev pub ParametersAreOnce : Type 0
 ParametersAreOnce =
-    (program : List ModuleParts) → AllNamesAreOnce program → (place : ℕ) (m : ModuleParts) (part : Part) (i : ℕ)
+    (program : List ModuleParts) → AllNamesAreOnce program
+    → (place : ℕ) (m : ModuleParts) (part : Part) (i : ℕ)
     (d : PlainDeclaration) → slice_get program place ≡ Some m
     → slice_get (declarations_in (part_of part m)) i ≡ Some d → ParametersAreApart d

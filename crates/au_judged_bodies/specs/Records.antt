@@ -20,7 +20,8 @@ kinds_running s z fields = map (λ (one : Typed). running s z one.of) fields
 -- they run.
 abbrev pub RecordsRun : Type 0
 RecordsRun =
-    (program : List ModuleParts) → DefinitionsFit program → (place : ℕ) (params : List Parameter) (s : Bindings) (z : ℕ)
+    (program : List ModuleParts) → DefinitionsFit program
+    → (place : ℕ) (params : List Parameter) (s : Bindings) (z : ℕ)
     (t : Meaning) (fields : List Typed) → fields_of program place t ≡ Some fields
     → BindingsAreWellFormed (heads_of program) params [] s → IsWellFormed (heads_of program) params t
     → (fields_in program (running s z t) 0 ≡ Some (kinds_running s z fields))
@@ -29,7 +30,8 @@ RecordsRun =
 -- The cases of a union that is known in a module have the fields of their numbers, where it runs.
 abbrev pub UnionsRun : Type 0
 UnionsRun =
-    (program : List ModuleParts) → DefinitionsFit program → (place : ℕ) (params : List Parameter) (s : Bindings) (z : ℕ)
+    (program : List ModuleParts) → DefinitionsFit program
+    → (place : ℕ) (params : List Parameter) (s : Bindings) (z : ℕ)
     (t : Meaning) (cases : List Case) → cases_of program place t ≡ Some cases
     → BindingsAreWellFormed (heads_of program) params [] s → IsWellFormed (heads_of program) params t
     → (tag : ℕ) (one : Case) → slice_get cases tag ≡ Some one

@@ -41,7 +41,8 @@ kinds_running s z fields = map (λ (one : Typed). running s z one.of) fields
 abbrev pub EachLasts : List Typed → Type 0
 EachLasts fields = (place : ℕ) (one : Typed) → slice_get fields place ≡ Some one → is_lasting one.of ≡ true
 
-module _ (types : Types) {I : Type 0} (see : View I Note (Unit {0})) (outside : Outside) (s : Bindings) (given : Given)
+module _ (types : Types) {I : Type 0} (see : View I Note (Unit {0})) (outside : Outside) (s : Bindings)
+    (given : Given)
     (z : ℕ) where
   -- The cases of a union are seen as they are written: each under its number, with its fields; a name means
   -- one of them where it does so by the rules; no two are one, and no two fields of one have one name.
@@ -66,13 +67,15 @@ module _ (types : Types) {I : Type 0} (see : View I Note (Unit {0})) (outside : 
 -- What is known round a body, by the rules of typing, agrees with what is known where it runs: whichever
 -- good bindings stand for its type parameters and for the regions of the borrow statements that are open.
 pub record RoundFits (types : Types) (owner : ClosedType → Option (List ℕ)) {I K : Type 0}
-    (see : View I Note (Unit {0})) (known : Callables I K) (outside : Outside) (generics : List Bounded) (given : Given)
+    (see : View I Note (Unit {0})) (known : Callables I K) (outside : Outside) (generics : List Bounded)
+    (given : Given)
     (Stands : Bindings → Type 0) : Type 0 where
   pub noted : (n : Note) → see.type_of n ≡ Some (closed_under given n.of)
   pub readers : (t : Meaning) (region : Region) → types.is_free (reads t region) ≡ true
   pub free : (s : Bindings) (regions : List Bytes) (z : ℕ) (t : Meaning) → Stands s
       → IsKnown outside.heads (parameters generics) regions t
-      → is_free (universe_of outside.heads (parameters generics) t) ≡ true → types.is_free (running s z t) ≡ true
+      → is_free (universe_of outside.heads (parameters generics) t) ≡ true → types.is_free (running s z t)
+      ≡ true
   pub copied : (s : Bindings) (regions : List Bytes) (z : ℕ) (n : Note) → Stands s
       → IsKnown outside.heads (parameters generics) regions n.of → see.is_free n ≡ true
       → types.is_free (running s z n.of) ≡ true
@@ -92,13 +95,15 @@ pub record RoundFits (types : Types) (owner : ClosedType → Option (List ℕ)) 
   pub opens : (s : Bindings) (region : Bytes) (z : ℕ) → Stands s
       → universe_in (parameters generics) region ≡ None
       → Stands (with_pair region (in_region (token z)) s)
-  pub calls : (names : ℕ → Meaning) (active : ℕ → Bool) (sc : Scope) (scope : meaning.Scope) (s : Bindings) (z : ℕ)
+  pub calls : (names : ℕ → Meaning) (active : ℕ → Bool) (sc : Scope) (scope : meaning.Scope) (s : Bindings)
+      (z : ℕ)
       → sc.outside ≡ outside → sc.generics ≡ generics → Stands s
       → FrameFits types see names active sc scope s given z
       → CallsRun types owner see known names active sc scope s given z
 
 -- A variable in scope is there, under a number below this one, and has the running type of its own.
-pub record VariableStands (names : ℕ → Meaning) (number : ℕ) (scope : meaning.Scope) (s : Bindings) (given : Given)
+pub record VariableStands (names : ℕ → Meaning) (number : ℕ) (scope : meaning.Scope) (s : Bindings)
+    (given : Given)
     (name : Bytes) (t : Meaning) : Type 0 where
   pub variable : meaning.Variable
   pub means : meaning.variable_of scope name ≡ Some variable

@@ -22,8 +22,10 @@ field_closed given one = record { name = one.name; of = closed_under given one.o
 -- A record that is known in a module has one case in the meaning, with the fields that the rules know.
 abbrev pub RecordsAreSeen : Type 0
 RecordsAreSeen =
-    (program : List ModuleParts) → DefinitionsFit program → (place : ℕ) (params : List Parameter) (regions : List Bytes)
-    (given : Given) (s : Bindings) (t : Meaning) (fields : List Typed) → StandsFor (heads_of program) params given s
+    (program : List ModuleParts) → DefinitionsFit program
+    → (place : ℕ) (params : List Parameter) (regions : List Bytes)
+    (given : Given) (s : Bindings) (t : Meaning) (fields : List Typed)
+    → StandsFor (heads_of program) params given s
     → IsKnown (heads_of program) params regions t → EachIsKnown (heads_of program) params regions fields
     → fields_of program place t ≡ Some fields
     → fields_in program (closed_under given t) 0 ≡ Some (map (field_closed given) fields)
@@ -31,8 +33,11 @@ RecordsAreSeen =
 -- The cases of a union that is known in a module have in the meaning the fields that the rules know.
 abbrev pub UnionsAreSeen : Type 0
 UnionsAreSeen =
-    (program : List ModuleParts) → DefinitionsFit program → (place : ℕ) (params : List Parameter) (regions : List Bytes)
-    (given : Given) (s : Bindings) (t : Meaning) (cases : List Case) → StandsFor (heads_of program) params given s
-    → IsKnown (heads_of program) params regions t → cases_of program place t ≡ Some cases → (tag : ℕ) (one : Case)
+    (program : List ModuleParts) → DefinitionsFit program
+    → (place : ℕ) (params : List Parameter) (regions : List Bytes)
+    (given : Given) (s : Bindings) (t : Meaning) (cases : List Case)
+    → StandsFor (heads_of program) params given s
+    → IsKnown (heads_of program) params regions t → cases_of program place t ≡ Some cases
+    → (tag : ℕ) (one : Case)
     → slice_get cases tag ≡ Some one → EachIsKnown (heads_of program) params regions one.fields
     → fields_in program (closed_under given t) tag ≡ Some (map (field_closed given) one.fields)

@@ -21,15 +21,15 @@ use Rattle.au_running_lives.specs.Known.{Callables}
 use Rattle.au_judged_bodies.specs.TypedRunsLaws.{CallsRun}
 use Rattle.au_judged_bodies.specs.Rounds.{names_of}
 
--- The running types of parameters for the caller, which has these bindings and is in the whole expression of this token:
--- under what a call notes.
+-- The running types of parameters for the caller, which has these bindings and is in the whole expression of
+-- this token: under what a call notes.
 abbrev pub kinds_taken : Bindings → ℕ → Bindings → List Typed → List Meaning
 kinds_taken s z noted parameters = map (λ (one : Typed). running s z (substituted noted one.of)) parameters
 
 module _ (types : Types) (owner : ClosedType → Option (List ℕ)) {I K : Type 0} (see : View I Note (Unit {0}))
     (known : Callables I K) (active : ℕ → Bool) (s : Bindings) (z : ℕ) where
-  -- The call of a name is seen: the name calls something with the parameters of what is called by the rules, which are
-  -- apart, and this takes their running types, and gives the running type of the call.
+  -- The call of a name is seen: the name calls something with the parameters of what is called by the rules,
+  -- which are apart, and this takes their running types, and gives the running type of the call.
   pub record CallIsSeen (note : Note) (name : Bytes) (called : Callable) (noted : Bindings) : Type 0 where
     pub one : Callee I
     pub seen : (c : Unit {0}) → see.callee note c name ≡ Some one
@@ -42,7 +42,8 @@ module _ (types : Types) (owner : ClosedType → Option (List ℕ)) {I K : Type 
   abbrev pub CallsAreSeen : Scope → Type 0
   CallsAreSeen sc =
       (note : Note) (name : Bytes) (takes : List Typed → Option (List Meaning)) (args : List Shown)
-      (good : GoodCall sc note name takes args) → ModeIsKnownIn sc note.mode → CallIsKnown sc note name takes args good
+      (good : GoodCall sc note name takes args) → ModeIsKnownIn sc note.mode
+      → CallIsKnown sc note name takes args good
       → CallIsSeen note name good.called good.ends
 
   -- Good calls that are seen run where their arguments do.

@@ -22,7 +22,8 @@ module _ (types : Types) (owner : ClosedType → Option (List ℕ)) {I K : Type 
     (known : Callables I K) (given : Given) (Stands : Bindings → Type 0) where
   abbrev pub BlocksRun : Type 0
   BlocksRun =
-      (loose : ℕ → Bool) (result : Meaning) (block : NotedStatements) (active : ℕ → Bool) (number : ℕ) (sc : Scope)
+      (loose : ℕ → Bool) (result : Meaning) (block : NotedStatements) (active : ℕ → Bool) (number : ℕ)
+      (sc : Scope)
       (scope : meaning.Scope) (s : Bindings) (names : ℕ → Meaning)
       → PlaceFits types owner see known given Stands result active number sc scope s names
       → GoodBlock block sc → BesidesAll see loose number sc scope block

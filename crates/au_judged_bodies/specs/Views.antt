@@ -35,7 +35,8 @@ EachCaseIsKnown program params regions cases =
     → EachIsKnown (heads_of program) params regions one.fields
 
 module _ (program : List ModuleParts) (noted : List NotedParts) (fit : DefinitionsFit program)
-    (apart : DefinitionsAreApart program) (place : ℕ) (params : List Parameter) (regions : List Bytes) (given : Given)
+    (apart : DefinitionsAreApart program) (place : ℕ) (params : List Parameter) (regions : List Bytes)
+    (given : Given)
     (s : Bindings) (z : ℕ) (stands : StandsFor (heads_of program) params given s) where
   -- A record that is known at a place is seen by the view of a body there.
   abbrev pub RecordsAreViewed : Type 0
@@ -50,5 +51,6 @@ module _ (program : List ModuleParts) (noted : List NotedParts) (fit : Definitio
   UnionsAreViewed =
       (t : Meaning) (cases : List Case) → IsKnown (heads_of program) params regions t
       → EachCaseIsKnown program params regions cases → cases_of program place t ≡ Some cases
-      → UnionIsSeen (types_of program) (view_under program noted place params given) (outside_of program place Body) s
+      → UnionIsSeen (types_of program) (view_under program noted place params given)
+      (outside_of program place Body) s
       given z t cases

@@ -23,17 +23,20 @@ is_function (function at generics h) = true
 is_function (function_body at generics h body stop) = true
 is_function other = false
 
--- A function is there: a call of it leads to it by its name and its type parameters that aren't regions, and where it
--- isn't shipped its body is there, with the type parameters, the parameters and the result of what is called by the rules.
-pub record FunctionIsThere (program : List ModuleParts) (trees : List NotedParts) (target : Target) (d : Standing)
+-- A function is there: a call of it leads to it by its name and its type parameters that aren't regions, and
+-- where it isn't shipped its body is there, with the type parameters, the parameters and the result of what
+-- is called by the rules.
+pub record FunctionIsThere (program : List ModuleParts) (trees : List NotedParts) (target : Target)
+    (d : Standing)
     (called : Callable) : Type 0 where
   pub declared : Bytes
-  pub leads : called_of target.name d.says ≡ Some (a_function declared (type_names (parameters called.generics)))
+  pub leads : called_of target.name d.says
+      ≡ Some (a_function declared (type_names (parameters called.generics)))
   pub stands : prim_of (module_name program target.at.«module») declared None ≡ None
       → (body : BodyOf) × (body_of program trees target ≡ Some body) × IsBodyOf program body called
 
--- Each function that is called is there, in a program with notes of which the bodies fulfil their interfaces, each
--- declaration is one that its part may have, and what has no body is shipped.
+-- Each function that is called is there, in a program with notes of which the bodies fulfil their interfaces,
+-- each declaration is one that its part may have, and what has no body is shipped.
 abbrev pub FunctionsAreThere : List ModuleParts → List NotedParts → Type 0
 FunctionsAreThere program trees =
     erase_program trees ≡ program → AllFulfil program → AreOfParts program → FunctionsAreShipped program

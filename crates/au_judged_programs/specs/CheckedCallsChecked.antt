@@ -8,4 +8,5 @@ use Rattle.au_judged_programs.specs.Programs.{ProgramFits}
 -- A checked program is as calls in its bodies ask it.
 abbrev pub CheckedProgramsFit : Type 0
 CheckedProgramsFit =
-    (program : List ModuleParts) (trees : List NotedParts) → IsChecked program trees → ProgramFits program trees
+    (program : List ModuleParts) (trees : List NotedParts) → IsChecked program trees
+    → ProgramFits program trees

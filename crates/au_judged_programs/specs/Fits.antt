@@ -16,7 +16,8 @@ use Rattle.au_judged_programs.specs.CheckedChecked.{IsChecked}
 -- An accepted program is checked, with its notes.
 abbrev pub AcceptedAreChecked : Type 0
 AcceptedAreChecked =
-    (files : Files) (names all : List (List ℕ)) (reads : List ReadFile) (a : AreAcceptedAs files names all reads)
+    (files : Files) (names all : List (List ℕ)) (reads : List ReadFile)
+    (a : AreAcceptedAs files names all reads)
     → IsChecked (program_modules reads) a.noted
 
 -- In a checked program each declaration is well made where it stands, and the type of each record and union
@@ -28,5 +29,6 @@ CheckedDeclarationsFit =
 -- In a checked program the cases of each definition, and the fields of each case, have names of their own.
 abbrev pub CheckedDefinitionsAreApart : Type 0
 CheckedDefinitionsAreApart =
-    (program : List ModuleParts) (noted : List NotedParts) → IsChecked program noted → (at : DeclAt) (d : Standing)
+    (program : List ModuleParts) (noted : List NotedParts) → IsChecked program noted
+    → (at : DeclAt) (d : Standing)
     → definition_of program at ≡ Some d → IsApart d.says

@@ -17,11 +17,12 @@ module _ (program : List ModuleParts) (noted : List NotedParts) (owner : ClosedT
   abbrev pub CallsRunInBodies : Type 0
   CallsRunInBodies =
       (key : Key program noted)
-      → CallsRunHere program noted key.body.place (generics_of program noted key.body key.one.given) key.one.given owner
+      → CallsRunHere program noted key.body.place
+      (generics_of program noted key.body key.one.given) key.one.given owner
       (ways program noted)
 
-  -- Then each function of a checked program may be run in each of its ways, whichever numbers the first names of functions
-  -- have.
+  -- Then each function of a checked program may be run in each of its ways, whichever numbers the first names
+  -- of functions have.
   abbrev pub CheckedProgramsAreJudged : Type 0
   CheckedProgramsAreJudged =
       IsChecked program noted → CallsRunInBodies → (first : Instance → ℕ)

@@ -13,9 +13,10 @@ use Rattle.au_judged_programs.specs.CheckedChecked.{IsChecked}
 use Rattle.au_judged_bodies.specs.LivedBodiesBodies.{IsGoodFunction}
 use Rattle.au_judged_bodies.specs.Asked.{AreInBlock}
 
--- A function that the meaning knows is that of a body in the text, which is good by what the body of its module sees
--- and over its own type parameters; these are declared before it, in blocks that are open.
-pub record IsKnownWell (program : List ModuleParts) (noted : List NotedParts) (first : Instance → ℕ) (one : Instance)
+-- A function that the meaning knows is that of a body in the text, which is good by what the body of its
+-- module sees and over its own type parameters; these are declared before it, in blocks that are open.
+pub record IsKnownWell (program : List ModuleParts) (noted : List NotedParts) (first : Instance → ℕ)
+    (one : Instance)
     (f : Function Instance Note (Unit {0})) : Type 0 where
   pub body : BodyOf
   pub written : body_of program noted one.of ≡ Some body

@@ -53,9 +53,9 @@ is_class other = false
 abbrev pub has_headers : PlainDeclaration → Bool
 has_headers says = is_function says || is_class says
 
--- What is asked of a program with notes: its definitions fit their rows, the names in each are apart, and each is that of
--- the type of its name; its bodies fulfil its interfaces; each declaration is one that its part may have, what has no body
--- is shipped, and no two parameters of a function or a method have one name.
+-- What is asked of a program with notes: its definitions fit their rows, the names in each are apart, and
+-- each is that of the type of its name; its bodies fulfil its interfaces; each declaration is one that its
+-- part may have, what has no body is shipped, and no two parameters of a function or a method have one name.
 pub record ProgramFits (program : List ModuleParts) (trees : List NotedParts) : Type 0 where
   pub fit : DefinitionsFit program
   pub apart : DefinitionsAreApart program
@@ -70,7 +70,8 @@ pub record ProgramFits (program : List ModuleParts) (trees : List NotedParts) : 
 
 module _ (program : List ModuleParts) (trees : List NotedParts) (place : ℕ) (params : List Parameter)
     (regions : List Bytes) (given : Given) (s : Bindings) (z : ℕ) (active : ℕ → Bool) where
-  -- A call of a name is seen that means what is called, where what it notes is put for the type parameters of this.
+  -- A call of a name is seen that means what is called, where what it notes is put for the type parameters of
+  -- this.
   abbrev pub TargetIsSeen : Note → Bytes → Target → Standing → Callable → Bindings → Type 0
   TargetIsSeen note name target d called put =
       find name (seen_at Callables program place Body) ≡ Some target → standing_at program target.at ≡ Some d
@@ -83,13 +84,15 @@ module _ (program : List ModuleParts) (trees : List NotedParts) (place : ℕ) (p
   -- Calls of shipped functions are seen.
   abbrev pub ShippedAreSeen : Type 0
   ShippedAreSeen =
-      (note : Note) (name : Bytes) (target : Target) (d : Standing) (called : Callable) (put : Bindings) (declared : Bytes)
+      (note : Note) (name : Bytes) (target : Target) (d : Standing) (called : Callable) (put : Bindings)
+      (declared : Bytes)
       (prim : ShippedCall)
       → called_of target.name d.says ≡ Some (a_function declared (type_names (parameters called.generics)))
       → prim_of (module_name program target.at.«module») declared None ≡ Some prim
       → TargetIsSeen note name target d called put
 
-module _ (program : List ModuleParts) (trees : List NotedParts) (place : ℕ) (generics : List Bounded) (given : Given) where
+module _ (program : List ModuleParts) (trees : List NotedParts) (place : ℕ) (generics : List Bounded)
+    (given : Given) where
   -- what is wanted of what a call puts holds in the body: the constraints, and the class of a method
   abbrev pub HoldsHere : Callable → Bindings → Type 0
   HoldsHere called put =
@@ -101,7 +104,8 @@ module _ (program : List ModuleParts) (trees : List NotedParts) (place : ℕ) (g
   MethodsAreSeen regions s z active =
       (note : Note) (name : Bytes) (target : Target) (d : Standing) (called : Callable) (put : Bindings)
       → is_class d.says ≡ true → HoldsHere called put
-      → TargetIsSeen program trees place (parameters generics) regions given s z active note name target d called put
+      → TargetIsSeen program trees place
+      (parameters generics) regions given s z active note name target d called put
 
   -- Calls of shipped functions and of methods are seen, wherever the body runs.
   abbrev pub OthersAreSeen : Type 0
@@ -115,9 +119,12 @@ module _ (program : List ModuleParts) (trees : List NotedParts) (place : ℕ) (g
   abbrev pub CallsOfBodiesRun : Type 0
   CallsOfBodiesRun =
       ProgramFits program trees → OthersAreSeen → (names : ℕ → Meaning) (active : ℕ → Bool) (sc : Scope)
-      (scope : meaning.Scope) (s : Bindings) (z : ℕ) → sc.outside ≡ outside_of program place Body → sc.generics ≡ generics
+      (scope : meaning.Scope) (s : Bindings) (z : ℕ) → sc.outside ≡ outside_of program place Body
+      → sc.generics ≡ generics
       → StandsFor (heads_of program) (parameters generics) given s
-      → FrameFits (types_of program) (view_under program trees place (parameters generics) given) names active sc scope s
+      → FrameFits (types_of program)
+      (view_under program trees place (parameters generics) given) names active sc scope s
       given z
-      → CallsRun (types_of program) (owner_of program) (view_under program trees place (parameters generics) given)
+      → CallsRun (types_of program) (owner_of program)
+      (view_under program trees place (parameters generics) given)
       (ways program trees) names active sc scope s given z

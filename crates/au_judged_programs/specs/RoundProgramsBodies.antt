@@ -29,7 +29,8 @@ use Rattle.au_judged_bodies.specs.TypedRunsLaws.{CallsRun}
 use Rattle.au_judged_bodies.specs.Rounds.{RoundFits}
 use Rattle.au_judged_programs.specs.CheckedChecked.{IsChecked}
 
-module _ (program : List ModuleParts) (noted : List NotedParts) (place : ℕ) (generics : List Bounded) (given : Given) where
+module _ (program : List ModuleParts) (noted : List NotedParts) (place : ℕ) (generics : List Bounded)
+    (given : Given) where
   -- The constants that are seen in a body have values of their types, none of which is a record or a
   -- reference.
   pub record ConstantsStand : Type 0 where
@@ -46,9 +47,11 @@ module _ (program : List ModuleParts) (noted : List NotedParts) (place : ℕ) (g
       (names : ℕ → Meaning) (active : ℕ → Bool) (sc : Scope) (scope : meaning.Scope) (s : Bindings) (z : ℕ)
       → sc.outside ≡ outside_of program place Body → sc.generics ≡ generics
       → StandsFor (heads_of program) (parameters generics) given s
-      → FrameFits (types_of program) (view_under program noted place (parameters generics) given) names active sc scope s
+      → FrameFits (types_of program)
+      (view_under program noted place (parameters generics) given) names active sc scope s
       given z
-      → CallsRun (types_of program) owner (view_under program noted place (parameters generics) given) known names active
+      → CallsRun (types_of program) owner
+      (view_under program noted place (parameters generics) given) known names active
       sc scope s given z
 
   -- Where constants stand and calls run, what is known round a body of a checked program agrees with what
@@ -57,4 +60,5 @@ module _ (program : List ModuleParts) (noted : List NotedParts) (place : ℕ) (g
   RoundsFit owner known =
       IsChecked program noted → ConstantsStand → CallsRunHere owner known
       → RoundFits (types_of program) owner (view_under program noted place (parameters generics) given) known
-      (outside_of program place Body) generics given (StandsFor (heads_of program) (parameters generics) given)
+      (outside_of program place Body) generics given
+      (StandsFor (heads_of program) (parameters generics) given)

@@ -38,14 +38,16 @@ module _ (program : List ModuleParts) (noted : List NotedParts) (body : BodyOf) 
   abbrev pub view_of : View Instance Note (Unit {0})
   view_of = view_under program noted body.place (parameters generics_of) given
 
-  -- A body runs, with its parameters as the first names of its frame, at the running types of what is written for them and
-  -- for its result.
+  -- A body runs, with its parameters as the first names of its frame, at the running types of what is written
+  -- for them and for its result.
   pub record BodyRuns (owner : ClosedType → Option (List ℕ)) {K : Type 0} (known : Callables Instance K)
       (loose : ℕ → Bool) (active : ℕ → Bool) (first : ℕ) (s : Bindings) (names : ℕ → Meaning) : Type 0 where
     pub ofs : List Meaning
     pub result : Meaning
-    pub takes : AreMeant (outer_scope (outside_of program body.place Body) generics_of) body.header.parameters ofs
-    pub gives : written_type (outer_scope (outside_of program body.place Body) generics_of) body.header.result ≡ Ok result
+    pub takes : AreMeant
+        (outer_scope (outside_of program body.place Body) generics_of) body.header.parameters ofs
+    pub gives : written_type
+        (outer_scope (outside_of program body.place Body) generics_of) body.header.result ≡ Ok result
     pub many : length (parameters_under program noted given body) ≡ length ofs
     pub runs : RunsAll (types_of program) owner view_of known (running s 0 result) loose active
         (first + length (parameters_under program noted given body))
@@ -55,9 +57,11 @@ module _ (program : List ModuleParts) (noted : List NotedParts) (body : BodyOf) 
   -- A body that is good by the rules of typing runs in a frame where what stands for its type parameters is
   -- good and the regions among these may be used, where constants stand and calls run, and where it is what
   -- it is asked besides.
-  abbrev pub BodiesOfProgramsRun : (ClosedType → Option (List ℕ)) → {K : Type 0} → Callables Instance K → Type 0
+  abbrev pub BodiesOfProgramsRun : (ClosedType → Option (List ℕ)) → {K : Type 0} → Callables Instance K
+      → Type 0
   BodiesOfProgramsRun owner known =
-      IsChecked program noted → (good : GoodBody (outside_of program body.place Body) body.generics body.header body.block)
+      IsChecked program noted
+      → (good : GoodBody (outside_of program body.place Body) body.generics body.header body.block)
       → ConstantsStand program noted body.place generics_of given
       → CallsRunHere program noted body.place generics_of given owner known
       → (loose active : ℕ → Bool) (first : ℕ) (s : Bindings) (names : ℕ → Meaning)

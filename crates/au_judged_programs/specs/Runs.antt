@@ -11,10 +11,12 @@ use Rattle.au_judged_bodies.specs.Tables.{types_of}
 use Rattle.au_judged_programs.specs.Judged.{CallsRunInBodies}
 use Rattle.au_sound.specs.Runs.{IsEntry, IsSeenWell}
 
--- Where calls run in the bodies of functions, every run from a way in which an entry is called is seen
--- well, whatever the input and however many ticks there are, and whichever numbers the first names of functions have.
+-- Where calls run in the bodies of functions, every run from a way in which an entry is called is seen well,
+-- whatever the input and however many ticks there are, and whichever numbers the first names of functions
+-- have.
 abbrev pub RunsAreSeenWell : List ModuleParts → List NotedParts → (ClosedType → Option (List ℕ)) → Type 0
 RunsAreSeenWell program noted owner =
     CallsRunInBodies program noted owner → (first : Instance → ℕ) (key : Key program noted)
     → IsEntry (types_of program) owner (ways program noted) (generic_functions program noted first) key
-    → (input : List ℕ) (ticks : ℕ) → IsSeenWell owner (mean (generic_functions program noted first) key.one input ticks)
+    → (input : List ℕ) (ticks : ℕ)
+    → IsSeenWell owner (mean (generic_functions program noted first) key.one input ticks)

@@ -10,10 +10,12 @@ use Rattle.au_judged_programs.specs.CheckedChecked.{IsChecked}
 -- definition.
 abbrev pub CheckedBirthsAreShipped : Type 0
 CheckedBirthsAreShipped =
-    (program : List ModuleParts) (noted : List NotedParts) → IsChecked program noted → BirthsAreShipped program
+    (program : List ModuleParts) (noted : List NotedParts) → IsChecked program noted
+    → BirthsAreShipped program
 
 -- The types of a checked program have their forms, and each form is its own; fields of Free types are Free,
 -- and what has births isn't.
 abbrev pub CheckedTypesAreTyped : Type 0
 CheckedTypesAreTyped =
-    (program : List ModuleParts) (noted : List NotedParts) → IsChecked program noted → AreTyped (types_of program)
+    (program : List ModuleParts) (noted : List NotedParts) → IsChecked program noted
+    → AreTyped (types_of program)
