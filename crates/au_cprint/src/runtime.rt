@@ -28,6 +28,13 @@ pub const RUNTIME: &[u8] = br#"/* Austral runtime 1 */
 #define HELPER __attribute__((unused)) static
 #define ENDS __attribute__((unused, noreturn, noinline)) static
 #define RARE __attribute__((unused, noinline)) static
+#define INLINED __attribute__((unused, always_inline)) static inline
+/* nothing is found out about a function for those that call it: they may be very long */
+#if defined(__clang__)
+#define FAR_AWAY RARE
+#else
+#define FAR_AWAY __attribute__((unused, noipa)) static
+#endif
 #define LIKELY(X) __builtin_expect(!!(X), 1)
 #define UNLIKELY(X) __builtin_expect(!!(X), 0)
 

@@ -2,4 +2,4 @@ pub mod CloseLemmas
 pub mod FrameLemmas
 pub mod CallLemmas
 pub mod MainLemmas
-mod WireLemmas
+pub mod WireLemmas

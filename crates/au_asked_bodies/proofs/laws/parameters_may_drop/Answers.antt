@@ -1,5 +1,0 @@
-use Rattle.au_asked_bodies.proofs.AskedLemmas.{parameters_drop}
-use Rattle.au_asked_bodies.proofs.laws.parameters_may_drop.Goals as goal
-
-pub returns : goal.returns
-returns g c = λ f. parameters_drop f

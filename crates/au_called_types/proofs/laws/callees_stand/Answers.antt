@@ -1,8 +1,0 @@
-use Rattle.au_called_types.proofs.CalleeLemmas.{callee_stands, regions_stand}
-use Rattle.au_called_types.proofs.laws.callees_stand.Goals as goal
-
-pub returns : goal.returns
-returns c = λ heads params regions given s z inner put stands is. (
-  callee_stands heads params regions given s z inner put stands is,
-  λ active here opened. regions_stand heads params regions given s z inner put stands is active here opened,
-)

@@ -1,2 +1,0 @@
-pub use Rattle.au_checked.specs.Checked
-pub mod Fits

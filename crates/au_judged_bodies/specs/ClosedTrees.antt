@@ -1,0 +1,2 @@
+-- What is named here of `au_closed_trees`, for the crates above.
+pub use Rattle.au_closed_trees.specs.Parts

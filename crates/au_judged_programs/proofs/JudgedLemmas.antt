@@ -1,0 +1,237 @@
+-- A function of a checked program in one of the ways in which it is called: typing, lives and names put together.
+use Rattle.std.proofs.Common.{◌≡◌, ◌⊎◌, inl, inr, ℕ, suc, ◌+◌, Bool, true, List, [], ◌∷◌, length, map, Option, Some, Ok}
+use Rattle.std.proofs.Common.{refl, sym, ap, ◌∙◌, subst, arith}
+use Rattle.std.specs.Option.{option_map}
+use Rattle.std.proofs.lemmas.List.{length-map}
+use Rattle.std.proofs.lemmas.Option.{same_Some}
+use Rattle.au_syntax.specs.declared.declarations.Universe.TheVariants as universes
+use Rattle.au_syntax.specs.declared.modules.Part.TheVariants.{Body}
+use Rattle.au_syntax.specs.Plain.{Bytes}
+use Rattle.au_syntax.specs.Types.{Labelled, WrittenType}
+use Rattle.au_types.specs.declared.parameters.Parameter.{Parameter}
+use Rattle.au_types.specs.declared.types.Region.{Region}
+use Rattle.au_types.specs.declared.types.Region.TheVariants.{Static, Named, Anonymous}
+use Rattle.au_types.specs.Meant.{meant}
+use Rattle.au_types.specs.Types.{Meaning, unit, writes}
+use Rattle.au_types.specs.Universes.{universe_in}
+use Rattle.au_matching.specs.Bindings.{value_of}
+use Rattle.au_matching.specs.Substituted.{OfRegion, region_for}
+use Rattle.au_judged_types.specs.Bounds.{Bounded, parameters}
+use Rattle.au_judged_types.specs.Meanings.{written_params}
+use Rattle.au_type_texts.specs.Given.{Given}
+use Rattle.au_type_texts.specs.Types.{ClosedType}
+use Rattle.au_running_types.specs.Running.{region_running, running, token}
+use Rattle.au_written_types.specs.Written.{IsRegionName}
+use Rattle.au_modules.specs.Programs.{ModuleParts}
+use Rattle.au_names.specs.HeadsOf.{heads_of}
+use Rattle.au_judged_bodies.specs.Typing.Bodies.{outer_scope}
+use Rattle.au_judged_bodies.specs.Lookups.{is_free_in, parameters_in, written_type}
+use Rattle.au_judged_bodies.specs.Notes.{Note}
+use Rattle.au_judged_bodies.specs.Outsides.{outside_of}
+use Rattle.au_judged_bodies.specs.Scopes.{Outside, Scope}
+use Rattle.au_judged_bodies.specs.Trees.{NotedParts}
+use Rattle.au_judged_bodies.specs.Written.{types_at}
+use Rattle.au_judged_bodies.specs.ClosedTrees.Parts.{field_under}
+use Rattle.au_meaning.specs.Meanings.{scope_of}
+use Rattle.au_meaning.specs.Views.{Function}
+use Rattle.au_judged_bodies.specs.Blocks.{AreFine, MayDrop, MayRun, RunsAll, with_types}
+use Rattle.au_judged_bodies.specs.Known.{AreActive, InScope}
+use Rattle.au_judged_bodies.specs.KnownTypes.Known.{IsKnownIn}
+use Rattle.au_judged_bodies.specs.StandingTypesStanding.{StandsFor}
+use Rattle.au_judged_bodies.proofs.KnownLemmas.{writes_parts}
+use Rattle.au_judged_bodies.proofs.NotedLemmas.{written_known}
+use Rattle.au_judged_bodies.proofs.StandingTypesStandLemmas.{free_runs}
+use Rattle.au_judged_bodies.specs.Besides.{BesidesAll}
+use Rattle.au_judged_bodies.specs.Begun.{AreMeant, kinds_given}
+use Rattle.au_judged_bodies.specs.Tables.{types_of}
+use Rattle.au_judged_programs.specs.RoundProgramsBodies.{CallsRunHere}
+use Rattle.au_judged_programs.specs.CheckedChecked.{IsChecked}
+use Rattle.au_judged_bodies.specs.Bodies.{BodyOf}
+use Rattle.au_judged_bodies.specs.Generic.{field_seen, function_under, generic_functions, view_under}
+use Rattle.au_judged_bodies.specs.Instances.{Instance}
+use Rattle.au_judged_programs.proofs.ConstantLemmas.{constants_of_programs_stand}
+use Rattle.au_judged_programs.specs.RunningBodiesBodies.{BodyRuns, generics_of, view_of}
+use Rattle.au_judged_programs.proofs.RunningBodiesBodyLemmas.{body_runs, meant_so, params_alike}
+use Rattle.au_judged_bodies.specs.Keys.{Key, meant_in_body, meant_or_unit, ways, written_running}
+use Rattle.au_judged_bodies.specs.LivedBodiesBodies.{IsGoodFunction, sorts_in}
+use Rattle.au_judged_bodies.specs.Lived.{loose_by}
+use Rattle.au_judged_bodies.proofs.LivedBodiesBodyLemmas.{bodies_ahead}
+use Rattle.au_judged_bodies.specs.Asked.{AreInBlock, MayDropGiven}
+use Rattle.au_judged_bodies.proofs.AskedLemmas.{bodies_asked, parameters_drop}
+use Rattle.au_judged_programs.proofs.CheckedBodiesBodyLemmas.{bodies_good}
+use Rattle.au_judged_programs.specs.Judged.{CheckedProgramsAreJudged}
+
+all_active : (zs : List ℕ) → AreActive (λ k. true) zs
+all_active [] = tt
+all_active (z ∷ zs) = (refl, all_active zs)
+
+token_there : (active : ℕ → Bool) (region : Region) → InScope active region
+    → (region ≡ Static) ⊎ ((z : ℕ) × (region ≡ token z))
+token_there active region (inl static) = inl static
+token_there active region (inr (z, is, on)) = inr (z, is)
+
+module _ (program : List ModuleParts) (noted : List NotedParts) (owner : ClosedType → Option (List ℕ))
+    (checked : IsChecked program noted) (first : Instance → ℕ) (key : Key program noted) where
+  abbrev given : Given
+  given = key.one.given
+
+  abbrev function : Function Instance Note (Unit {0})
+  function = function_under program noted (first key.one) given key.body
+
+  abbrev outside : Outside
+  outside = outside_of program key.body.place Body
+
+  abbrev generics : List Bounded
+  generics = generics_of program noted key.body given
+
+  abbrev outer : Scope
+  outer = outer_scope outside generics
+
+  abbrev labels : List (Labelled Bytes)
+  labels = key.body.header.parameters
+
+  there : generic_functions program noted first key.one ≡ Some function
+  there = ap (option_map (function_under program noted (first key.one) given)) key.there
+
+  -- ---- the body is good
+
+  abbrev IsGoodAt : BodyOf → Type 0
+  IsGoodAt body =
+      (good : IsGoodFunction function (outside_of program body.place Body) body.generics body.header)
+      × AreInBlock good.before body.generics
+
+  good : IsGoodAt key.body
+  good =
+      let its = bodies_good program noted checked first key.one function there in
+      subst IsGoodAt (same_Some its.body key.body (sym its.written ∙ key.there)) (its.good, its.declared)
+
+  abbrev loose : ℕ → Bool
+  loose = loose_by (sorts_in function outside key.body.generics key.body.header)
+
+  -- ---- its type parameters
+
+  alike : parameters generics ≡ written_params key.body.generics
+  alike = params_alike program key.body.place key.body.generics given
+
+  stands : StandsFor (heads_of program) (parameters generics) given key.s
+  stands = subst (λ ps. StandsFor (heads_of program) ps given key.s) (sym alike) key.stands
+
+  opened : (active : ℕ → Bool) → AreActive active key.tokens → (name : List ℕ)
+      → IsRegionName [] (parameters generics) name → InScope active (region_for (value_of name key.s) name)
+  opened active are name (inl is) = absurd cc
+  opened active are name (inr is) =
+      key.regions active are name (subst (λ ps. universe_in ps name ≡ Some universes.Region) alike is)
+
+  -- ---- what is written in its header
+
+  meant_here : (t : WrittenType) (of : Meaning) → written_type outer t ≡ Ok of
+      → meant_in_body program key.body t ≡ Some of
+  meant_here t of is =
+      ap (λ qs. meant [] qs (types_at program key.body.place Body) (heads_of program) t) (sym alike)
+      ∙ meant_so outer t of is
+
+  runs_so : (t : WrittenType) (of : Meaning) → written_type outer t ≡ Ok of
+      → running key.s 0 of ≡ written_running program key.body key.s t
+  runs_so t of is = ap (λ o. running key.s 0 (meant_or_unit o)) (sym (meant_here t of is))
+
+  kinds_alike : (ps : List (Labelled Bytes)) (ofs : List Meaning) → AreMeant outer ps ofs
+      → kinds_given key.s ofs ≡ map (λ (p : Labelled Bytes). written_running program key.body key.s p.of) ps
+  kinds_alike [] [] are = refl
+  kinds_alike (p ∷ rest) (of ∷ others) are = λ i. runs_so p.of of are.0 i ∷ kinds_alike rest others are.1 i
+  kinds_alike [] (of ∷ others) are = absurd are
+  kinds_alike (p ∷ rest) [] are = absurd are
+
+  -- ---- which parameters may be dropped
+
+  region_there : (region : Region) → OfRegion (IsRegionName [] (parameters_in outer)) region
+      → (region_running key.s 0 region ≡ Static) ⊎ ((z : ℕ) × (region_running key.s 0 region ≡ token z))
+  region_there Static is = inl refl
+  region_there (Named name) is = token_there (λ k. true) _ (opened (λ k. true) (all_active key.tokens) name is)
+  region_there Anonymous is = inr (0, refl)
+
+  drops : (t : Meaning) → IsKnownIn outer t
+      → (is_free_in outer t ≡ true) ⊎ ((to : Meaning) × (region : Region) × (t ≡ writes to region))
+      → MayDrop (types_of program) (running key.s 0 t)
+  drops t whole (inl free) = inl (free_runs program (parameters generics) [] given key.s 0 t stands whole free)
+  drops t whole (inr (to, region, same)) =
+      inr (
+        running key.s 0 to,
+        region_running key.s 0 region,
+        ap (running key.s 0) same,
+        region_there region
+            (writes_parts (heads_of program) (parameters generics) [] to region (subst (IsKnownIn outer) same whole)).1,
+      )
+
+  abbrev Fine : Meaning → ℕ → List Meaning → Type 0
+  Fine result number kinds =
+      AreFine (types_of program) owner function.view (ways program noted) result loose number kinds
+
+  fine : (result : Meaning) (number : ℕ) (ps : List (Labelled Bytes)) (ofs : List Meaning) → AreMeant outer ps ofs
+      → MayDropGiven loose outer number ps → Fine result number (kinds_given key.s ofs)
+  fine result number [] [] are may = tt
+  fine result number (p ∷ rest) (of ∷ others) are may =
+      let next : number + 1 ≡ suc number = omega arith in (
+        λ is. drops of (written_known outer p.of of are.0).0 (may.0 is of are.0),
+        subst (λ n. Fine result n (kinds_given key.s others)) next (fine result (number + 1) rest others are.1 may.1),
+      )
+  fine result number [] (of ∷ others) are may = absurd are
+  fine result number (p ∷ rest) [] are may = absurd are
+
+  -- ---- the whole judgement
+
+  besides : BesidesAll (view_of program noted key.body given) loose (function.first + length function.parameters)
+      good.0.body.scope (scope_of function) key.body.block
+  besides =
+      subst (λ (ps : List Parameter). BesidesAll (view_under program noted key.body.place ps given) loose
+      (function.first + length function.parameters) good.0.body.scope (scope_of function) key.body.block) (sym alike)
+      (bodies_asked function outside key.body.generics key.body.header good.0 good.1)
+
+  module _ (calls : CallsRunHere program noted key.body.place generics given owner (ways program noted)) where
+    runs_at : (active : ℕ → Bool) → AreActive active key.tokens
+        → BodyRuns program noted key.body given owner (ways program noted) loose active (first key.one) key.s (λ k. unit)
+    runs_at active are =
+        body_runs program noted key.body given owner (ways program noted) checked good.0.body
+        (constants_of_programs_stand program noted checked key.body.place generics given) calls loose active
+        (first key.one) key.s (λ k. unit) stands (opened active are) besides
+
+    abbrev Run : (ℕ → Bool) → List Parameter → List Meaning → Meaning → Type 0
+    Run active ps kinds result =
+        RunsAll (types_of program) owner (view_under program noted key.body.place ps given) (ways program noted) result
+        loose active (function.first + length function.parameters) (scope_of function) key.body.block
+        (with_types function.first kinds (λ k. unit))
+
+    runs : (active : ℕ → Bool) → AreActive active key.tokens
+        → Run active (written_params key.body.generics) ((ways program noted).parameters key)
+        ((ways program noted).result key)
+    runs active are =
+        let its = runs_at active are in
+        subst (λ ps. Run active ps ((ways program noted).parameters key) ((ways program noted).result key)) alike
+        (subst (λ kinds. Run active (parameters generics) kinds ((ways program noted).result key))
+        (kinds_alike labels its.ofs its.takes)
+        (subst (λ of. Run active (parameters generics) (kinds_given key.s its.ofs) of)
+        (runs_so key.body.header.result its.result its.gives) its.runs))
+
+    may_run : MayRun (types_of program) owner (ways program noted) function key
+    may_run =
+        let its = runs_at (λ k. true) (all_active key.tokens) in record {
+          many = length-map (map (field_under (types_at program key.body.place Body) (heads_of program)
+              (written_params key.body.generics) given) labels) field_seen
+              ∙ (length-map labels (field_under (types_at program key.body.place Body) (heads_of program)
+              (written_params key.body.generics) given)
+              ∙ sym (length-map labels (λ (p : Labelled Bytes). written_running program key.body key.s p.of)));
+          names = λ k. unit;
+          loose = loose;
+          fine = subst (Fine ((ways program noted).result key) (first key.one)) (kinds_alike labels its.ofs its.takes)
+              (fine ((ways program noted).result key) (first key.one) labels its.ofs its.takes
+              (parameters_drop function outside key.body.generics key.body.header));
+          runs = runs;
+          ahead = (bodies_ahead function outside key.body.generics key.body.header good.0).1;
+        }
+
+pub programs_judged : (program : List ModuleParts) (noted : List NotedParts) (owner : ClosedType → Option (List ℕ))
+    → CheckedProgramsAreJudged program noted owner
+programs_judged program noted owner checked calls first key = (
+  function program noted owner checked first key,
+  there program noted owner checked first key,
+  may_run program noted owner checked first key (calls key),
+)

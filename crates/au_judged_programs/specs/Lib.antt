@@ -1,0 +1,14 @@
+pub mod CheckedChecked
+pub mod Fits
+pub mod Typed
+pub mod RoundProgramsBodies
+pub mod RunningBodiesBodies
+pub mod Known
+pub mod CalledBodiesBodies
+pub mod Own
+pub mod StandingConstantsStanding
+pub mod Judged
+pub mod Runs
+pub mod Programs
+pub mod CheckedCallsChecked
+pub mod Entries

@@ -1,0 +1,22 @@
+-- Runs of a program with notes from an entry.
+use Rattle.std.specs.Prelude.{ℕ, List, Option}
+use Rattle.au_type_texts.specs.Types.{ClosedType}
+use Rattle.au_modules.specs.Programs.{ModuleParts}
+use Rattle.au_judged_bodies.specs.Trees.{NotedParts}
+use Rattle.au_meaning.specs.Meanings.{mean}
+use Rattle.au_judged_bodies.specs.Generic.{generic_functions}
+use Rattle.au_judged_bodies.specs.Instances.{Instance}
+use Rattle.au_judged_bodies.specs.Keys.{Key, ways}
+use Rattle.au_judged_bodies.specs.Tables.{types_of}
+use Rattle.au_judged_programs.specs.Judged.{CallsRunInBodies}
+use Rattle.au_sound.specs.Runs.{IsEntry, IsSeenWell}
+
+-- Where calls run in the bodies of functions, every run from a way in which an entry is called is seen well,
+-- whatever the input and however many ticks there are, and whichever numbers the first names of functions
+-- have.
+abbrev pub RunsAreSeenWell : List ModuleParts → List NotedParts → (ClosedType → Option (List ℕ)) → Type 0
+RunsAreSeenWell program noted owner =
+    CallsRunInBodies program noted owner → (first : Instance → ℕ) (key : Key program noted)
+    → IsEntry (types_of program) owner (ways program noted) (generic_functions program noted first) key
+    → (input : List ℕ) (ticks : ℕ)
+    → IsSeenWell owner (mean (generic_functions program noted first) key.one input ticks)

@@ -1,2 +1,0 @@
-pub mod ExpressionLemmas
-pub mod BodyLemmas

@@ -1,2 +1,0 @@
-pub use Rattle.au_names_ahead.specs.Lives
-pub mod Kept

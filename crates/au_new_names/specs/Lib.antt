@@ -1,3 +1,0 @@
-pub use Rattle.au_names_ahead.specs.Lived
-pub use Rattle.au_names_ahead.specs.Parts
-pub mod New

@@ -1,9 +1,0 @@
-//! The law of new names, as the contract of a call that does nothing.
-
-ghost use Rattle.au_meaning.specs.Views.{Function};
-ghost use Rattle.au_new_names.specs.New.{NamesAreNew};
-
-/// Where no name of a function is declared again in its text, each name that it declares is new in its scope.
-pub fn names_are_new<I, T, C>()
-    ensures { (f : Function I T C) → NamesAreNew f }
-{}

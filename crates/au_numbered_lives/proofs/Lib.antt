@@ -1,2 +1,0 @@
-pub use Rattle.au_names_ahead.proofs.StandLemmas
-pub mod NumberLemmas

@@ -1,2 +1,0 @@
-pub use Rattle.au_safe_steps.specs.Orders
-pub mod Apart

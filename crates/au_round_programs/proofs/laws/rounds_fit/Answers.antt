@@ -1,6 +1,0 @@
-use Rattle.au_round_programs.proofs.RoundLemmas.{round_fits}
-use Rattle.au_round_programs.proofs.laws.rounds_fit.Goals as goal
-
-pub returns : goal.returns
-returns g c = λ program noted place generics given owner known checked constants calls.
-    round_fits program noted place generics given owner known checked constants calls

@@ -1,8 +1,0 @@
-use Rattle.au_running_bodies.proofs.BodyLemmas.{body_runs}
-use Rattle.au_running_bodies.proofs.laws.bodies_run.Goals as goal
-
-pub returns : goal.returns
-returns g c = λ program noted body given owner known checked good constants calls loose active first s names stands regions
-    besides.
-    body_runs program noted body given owner known checked good constants calls loose active first s names stands regions
-    besides

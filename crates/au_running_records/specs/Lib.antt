@@ -1,2 +1,0 @@
-pub use Rattle.au_tables.specs.Tables
-pub mod Records

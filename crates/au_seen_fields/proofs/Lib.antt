@@ -1,9 +1,0 @@
-pub use Rattle.au_running_records.proofs.RunLemmas
-pub use Rattle.au_closed_tables.proofs.CloseLemmas
-pub use Rattle.au_standing_types.proofs.KnownLemmas
-pub use Rattle.au_running_records.proofs.LawfulLemmas
-pub use Rattle.au_running_records.proofs.MadeLemmas
-pub use Rattle.au_running_records.proofs.RecordLemmas
-pub use Rattle.au_standing_types.proofs.FieldLemmas
-pub use Rattle.au_standing_types.proofs.StandLemmas
-pub mod SeenLemmas

@@ -1,2 +1,0 @@
--- What is named here of `au_known_types`, for the crates above.
-pub use Rattle.au_seen_fields.specs.Known

@@ -1,3 +1,0 @@
--- What is named here of `au_known_types`, for the crates above.
-pub use Rattle.au_standing_types.specs.Known
-pub use Rattle.au_standing_types.specs.Laws

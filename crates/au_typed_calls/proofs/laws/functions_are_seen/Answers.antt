@@ -1,8 +1,0 @@
-use Rattle.au_typed_calls.proofs.FunctionLemmas.{function_seen}
-use Rattle.au_typed_calls.proofs.laws.functions_are_seen.Goals as goal
-
-pub returns : goal.returns
-returns c = λ types owner program trees place params regions given s z active runs note name target d declared called put body
-    means found leading unshipped there is well notes of puts.
-    function_seen types owner program trees place params regions given s z active runs note name target d declared called put
-    body means found leading unshipped there is well notes of puts

@@ -1,3 +1,0 @@
-pub use Rattle.au_numbered_lives.proofs.NumberLemmas
-pub mod ExpressionLemmas
-pub mod SaidLemmas

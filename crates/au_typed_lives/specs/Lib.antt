@@ -1,2 +1,0 @@
-pub use Rattle.au_numbered_lives.specs.Sorts
-pub mod Said

@@ -1,6 +1,0 @@
-use Rattle.au_typed_runs.proofs.ExpressionLemmas.{runs}
-use Rattle.au_typed_runs.proofs.laws.expressions_run.Goals as goal
-
-pub returns : goal.returns
-returns g c = λ types owner see known names active sc scope s given z fits calls e good wanted keeps.
-    runs types owner see known names active sc scope s given z fits calls e good wanted keeps

@@ -1,9 +1,0 @@
-pub use Rattle.au_running_judgements.specs.Binding
-pub use Rattle.au_running_judgements.specs.Orders
-pub use Rattle.au_running_judgements.specs.Blocks
-pub use Rattle.au_running_judgements.specs.Expressions
-pub use Rattle.au_running_judgements.specs.Known
-pub use Rattle.au_running_judgements.specs.Lives
-pub use Rattle.au_running_judgements.specs.Picking
-pub mod Frames
-pub mod Laws
