@@ -20,3 +20,5 @@ pub mod CheckedLemmas
 pub mod SoundEntriesCallLemmas
 pub mod EntryLemmas
 pub mod TypeLemmas
+pub mod FoundLemmas
+pub mod SoundLemmas
