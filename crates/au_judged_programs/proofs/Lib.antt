@@ -15,6 +15,10 @@ pub mod DefinedLemmas
 pub mod LiteralLemmas
 pub mod JudgedLemmas
 pub mod RunLemmas
+pub mod HoldLemmas
+pub mod MethodKeyLemmas
+pub mod MethodSeenLemmas
+pub mod MethodLemmas
 pub mod CallsRunCallLemmas
 pub mod CheckedLemmas
 pub mod SoundEntriesCallLemmas
