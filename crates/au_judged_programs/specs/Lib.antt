@@ -10,5 +10,6 @@ pub mod StandingConstantsStanding
 pub mod Judged
 pub mod Runs
 pub mod Programs
+pub mod ShippedMethods
 pub mod CheckedCallsChecked
 pub mod Entries
