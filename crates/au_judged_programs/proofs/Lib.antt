@@ -24,3 +24,9 @@ pub mod CheckedLemmas
 pub mod SoundEntriesCallLemmas
 pub mod EntryLemmas
 pub mod TypeLemmas
+pub mod ShippedMethodTestLemmas
+pub mod ShippedMethodOptionLemmas
+pub mod ShippedMethodFoundLemmas
+pub mod ShippedMethodRowLemmas
+pub mod ShippedMethodResultLemmas
+pub mod ShippedMethodSeenLemmas
