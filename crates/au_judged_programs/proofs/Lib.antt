@@ -20,3 +20,7 @@ pub mod CheckedLemmas
 pub mod SoundEntriesCallLemmas
 pub mod EntryLemmas
 pub mod TypeLemmas
+pub mod ShippedFrontLemmas
+pub mod ShippedSignatureLemmas
+pub mod ShippedRunLemmas
+pub mod ShippedCallLemmas
