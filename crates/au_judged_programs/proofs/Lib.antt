@@ -30,3 +30,7 @@ pub mod ShippedMethodFoundLemmas
 pub mod ShippedMethodRowLemmas
 pub mod ShippedMethodResultLemmas
 pub mod ShippedMethodSeenLemmas
+pub mod ShippedFrontLemmas
+pub mod ShippedSignatureLemmas
+pub mod ShippedRunLemmas
+pub mod ShippedCallLemmas

@@ -14,3 +14,4 @@ pub mod ShippedMethods
 pub mod SeenMethods
 pub mod CheckedCallsChecked
 pub mod Entries
+pub mod ShippedCalls

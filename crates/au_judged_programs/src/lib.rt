@@ -13,6 +13,7 @@ pub mod own_definitions;
 pub mod round_programs;
 pub mod running_bodies;
 pub mod seen_methods;
+pub mod shipped_calls;
 pub mod shipped_methods;
 pub mod sound_entries;
 pub mod sound_programs;
