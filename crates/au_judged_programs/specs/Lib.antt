@@ -12,3 +12,4 @@ pub mod Runs
 pub mod Programs
 pub mod CheckedCallsChecked
 pub mod Entries
+pub mod Sound

@@ -12,6 +12,7 @@ pub mod judged_programs;
 pub mod own_definitions;
 pub mod round_programs;
 pub mod running_bodies;
+pub mod sound;
 pub mod sound_entries;
 pub mod sound_programs;
 pub mod standing_constants;
