@@ -17,8 +17,8 @@ use Rattle.au_running.specs.declared.ran.Ran.TheVariants as how
 use Rattle.au_top.specs.Runs.{FromEntry, Run, entry_of}
 use Rattle.au_top.specs.Streams.{Gains, Streams}
 
--- Where what the program of a run means from its entry has ended, on whatever input, after t ticks, a run of the
--- code that the program is lowered to ends after s steps, and t <= s <= 8 t.
+-- Where what the program of a run means from its entry has ended, on whatever input, after t ticks, a run
+-- of the code that the program is lowered to ends after s steps, and t <= s <= 8 t.
 abbrev pub IsInStep : Run → Type 0
 IsInStep run =
     (noted : List NotedParts) (c : ClosedProgram) → IsDerived run.program noted
@@ -27,8 +27,8 @@ IsInStep run =
 
 -- for a run, and the streams of the call
 module _ (run : Run) (s : Streams) where
-  -- This is answered of the run, and shows what its program means from its entry, on the input of the call. The
-  -- lines of its events, which are none where they aren't asked for, and this line stand on `err`.
+  -- This is answered of the run, and shows what its program means from its entry, on the input of the call.
+  -- The lines of its events, which are none where they aren't asked for, and this line stand on `err`.
   pub record ShowsMeaning (ran : Ran) (line : Bytes) : Type 0 where
     pub meant :
         FromEntry run (λ program noted owner name. RunsAsMeant program noted owner name ran run.steps

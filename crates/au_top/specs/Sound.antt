@@ -8,8 +8,8 @@ use Rattle.au_outcomes.specs.declared.outcomes.Outcome.{Outcome}
 use Rattle.au_judged_programs.specs.Sound.{IsSound}
 use Rattle.au_top.specs.Ends.{IfRuns}
 
--- With whichever notes the rules of typing derive a program, it is sound: so is each of its runs, from whatever
--- entry is found, on whatever input and for however many ticks.
+-- With whichever notes the rules of typing derive a program, it is sound: so is each of its runs, from
+-- whatever entry is found, on whatever input and for however many ticks.
 abbrev pub AllRunsAreSound : List ModuleParts → Type 0
 AllRunsAreSound program = (noted : List NotedParts) → IsDerived program noted → IsSound program noted
 
