@@ -71,10 +71,8 @@ def ran(status, out, err, opaque):
         return f"the run ends with {status}"
     lines = err.splitlines(keepends=True)
     if status in (2, 8):
-        if out or len(lines) != 1 and lines[-1:] != [b"stuck\n"]:
+        if out or len(lines) != 1:
             return "refuses behind something written"
-        if lines[-1] == b"stuck\n":
-            return "STUCK"
         if status == 2:
             return "" if err.startswith(b"entry: ") and REFUSAL.match(err) else "the run refuses what is accepted"
         return "" if LIMIT.match(err) else "passes a limit with a line of no form"

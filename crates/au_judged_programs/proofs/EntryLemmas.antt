@@ -39,6 +39,7 @@ use Rattle.au_safe_steps.specs.Beginning.{IsExitOf}
 use Rattle.au_sound_calls.specs.Sound.{IsHomeOf}
 use Rattle.au_sound.specs.Runs.{IsEntry, TakesRoot}
 use Rattle.au_judged_programs.proofs.RunLemmas.{runs_well_seen}
+use Rattle.au_judged_programs.proofs.SoundEntriesCallLemmas.{calls_of_programs}
 use Rattle.au_judged_programs.specs.Entries.{EntriesRunWell, IsEntryHere}
 use Rattle.au_judged_programs.proofs.TypeLemmas.{exit_is, root_home, type_named}
 
@@ -146,6 +147,7 @@ module _ (program : List ModuleParts) (noted : List NotedParts) (checked : IsChe
   }
 
 pub entries_well : (program : List ModuleParts) (noted : List NotedParts) → EntriesRunWell program noted
-entries_well program noted checked calls target entry first input ticks =
+entries_well program noted checked target entry first input ticks =
+    let calls = calls_of_programs program noted checked in
     runs_well_seen program noted (owner_of program) checked calls first (key program noted checked calls target entry)
     (is_entry program noted checked calls target entry first) input ticks

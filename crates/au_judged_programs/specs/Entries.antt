@@ -40,11 +40,13 @@ OthersAreSeenInBodies program noted =
     → OthersAreSeen program noted key.body.place
     (generics_of program noted key.body key.one.given) key.one.given
 
--- Then calls run in the bodies of a checked program.
+-- So it is in a checked program.
+abbrev pub OthersOfProgramsAreSeen : List ModuleParts → List NotedParts → Type 0
+OthersOfProgramsAreSeen program noted = IsChecked program noted → OthersAreSeenInBodies program noted
+
+-- Calls run in the bodies of a checked program.
 abbrev pub CallsOfProgramsRun : List ModuleParts → List NotedParts → Type 0
-CallsOfProgramsRun program noted =
-    IsChecked program noted → OthersAreSeenInBodies program noted
-    → CallsRunInBodies program noted (owner_of program)
+CallsOfProgramsRun program noted = IsChecked program noted → CallsRunInBodies program noted (owner_of program)
 
 -- Every run of a program with notes from such a function is seen well, and what is born of an opaque type is
 -- born in its own module, whatever the input and however many ticks there are, and whichever numbers the
@@ -55,16 +57,12 @@ AllRunsAreSeenWell program noted =
     → IsSeenWell (owner_of program)
     (mean (generic_functions program noted first) (record { of = target; given = [] }) input ticks)
 
--- So it is in a checked program, where calls run in its bodies.
+-- So it is in a checked program.
 abbrev pub EntriesRunWell : List ModuleParts → List NotedParts → Type 0
-EntriesRunWell program noted =
-    IsChecked program noted → CallsRunInBodies program noted (owner_of program)
-    → AllRunsAreSeenWell program noted
+EntriesRunWell program noted = IsChecked program noted → AllRunsAreSeenWell program noted
 
--- So it is in an accepted program, where calls of shipped functions and of methods are seen.
+-- So it is in an accepted program.
 abbrev pub AcceptedEntriesRunWell : Type 0
 AcceptedEntriesRunWell =
     (files : Files) (names all : List (List ℕ)) (reads : List ReadFile)
-    (a : AreAcceptedAs files names all reads)
-    → OthersAreSeenInBodies (program_modules reads) a.noted
-    → AllRunsAreSeenWell (program_modules reads) a.noted
+    (a : AreAcceptedAs files names all reads) → AllRunsAreSeenWell (program_modules reads) a.noted

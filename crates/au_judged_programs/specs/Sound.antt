@@ -17,7 +17,7 @@ use Rattle.au_judged_bodies.specs.Entries.{begins, entry_of}
 use Rattle.au_judged_bodies.specs.Generic.{generic_functions}
 use Rattle.au_judged_bodies.specs.Trees.{NotedParts}
 use Rattle.au_judged_programs.specs.CheckedChecked.{IsChecked}
-use Rattle.au_judged_programs.specs.Entries.{AllRunsAreSeenWell, IsEntryHere, OthersAreSeenInBodies}
+use Rattle.au_judged_programs.specs.Entries.{IsEntryHere}
 
 -- In a checked program, what is found of an entry by the names of its module and its own has the form of one: it is the
 -- function that its name means in the body of its module, with the body that is written there.
@@ -58,8 +58,8 @@ IsSound program noted =
     (owner name : Bytes) (target : Target) (root : Bool) → entry_of program owner name ≡ begins target root
     → (input : List ℕ) (ticks : ℕ) → RunIsSound (owner_of program) (run_of program noted target input ticks)
 
--- Each accepted program is sound, where calls of shipped functions and of methods are seen in its bodies.
+-- Each accepted program is sound.
 abbrev pub AcceptedProgramsAreSound : Type 0
 AcceptedProgramsAreSound =
     (files : Files) (names all : List (List ℕ)) (reads : List ReadFile) (a : AreAcceptedAs files names all reads)
-    → OthersAreSeenInBodies (program_modules reads) a.noted → IsSound (program_modules reads) a.noted
+    → IsSound (program_modules reads) a.noted

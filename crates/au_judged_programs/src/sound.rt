@@ -10,7 +10,7 @@ pub fn found_entries_have_the_form()
     ensures { (program : List ModuleParts) (noted : List NotedParts) → EntriesAreFoundThere program noted }
 {}
 
-/// Each accepted program is sound, where calls of shipped functions and of methods are seen in its bodies.
+/// Each accepted program is sound.
 pub fn accepted_programs_are_sound()
     ensures { AcceptedProgramsAreSound }
 {}

@@ -22,7 +22,7 @@ use Rattle.au_rules.specs.declared.faults.DeclFault.TheVariants as rules
 use Rattle.au_outcomes.specs.declared.refusals.Refusal.{Refusal}
 use Rattle.au_outcomes.specs.declared.refusals.Refusal.TheVariants.{Byte, Syntax}
 use Rattle.au_outcomes.specs.declared.refusals.Refusal.TheVariants.{Pair, Import, Declaration, Instance}
-use Rattle.au_outcomes.specs.declared.refusals.Refusal.TheVariants.{Typing, Linear, Entry, Stuck}
+use Rattle.au_outcomes.specs.declared.refusals.Refusal.TheVariants.{Typing, Linear, Entry}
 
 -- each line ends with a newline
 abbrev pub line : List ℕ → List ℕ
@@ -139,10 +139,6 @@ life_text names lives.Memory = []
 abbrev pub entry_text : names.Entry → List ℕ
 entry_text entry = codes "entry: " ++ entry.«module» ++ codes ":" ++ entry.function
 
--- a program came to what isn't built yet while it ran
-abbrev pub stuck_text : List ℕ
-stuck_text = codes "stuck"
-
 -- the line of a refusal, without its end
 abbrev pub refusal_text : List (List ℕ) → Refusal → List ℕ
 refusal_text names (Byte at) = place_text names at ++ codes ": byte"
@@ -154,7 +150,6 @@ refusal_text names (Instance fault) = instance_text names fault
 refusal_text names (Typing fault) = type_text names fault
 refusal_text names (Linear fault) = life_text names fault
 refusal_text names (Entry entry) = entry_text entry
-refusal_text names Stuck = stuck_text
 
 -- the line of a refusal
 abbrev pub refusal_line : List (List ℕ) → Refusal → List ℕ

@@ -15,7 +15,7 @@ use Rattle.au_rules.specs.declared.faults.DeclFault.TheVariants as rules
 use Rattle.au_outcomes.specs.declared.refusals.Refusal.{Refusal}
 use Rattle.au_outcomes.specs.declared.refusals.Refusal.TheVariants.{Byte, Syntax}
 use Rattle.au_outcomes.specs.declared.refusals.Refusal.TheVariants.{Pair, Import, Declaration, Instance}
-use Rattle.au_outcomes.specs.declared.refusals.Refusal.TheVariants.{Typing, Linear, Entry, Stuck}
+use Rattle.au_outcomes.specs.declared.refusals.Refusal.TheVariants.{Typing, Linear, Entry}
 
 -- whether files are refused for this: neither a limit that is passed nor want of memory is a refusal
 abbrev pub is_module_refusal : ModuleFault → Bool
@@ -76,4 +76,3 @@ is_refusal (Instance fault) = is_class_refusal fault
 is_refusal (Typing fault) = is_type_refusal fault
 is_refusal (Linear fault) = is_life_refusal fault
 is_refusal (Entry entry) = true
-is_refusal Stuck = true

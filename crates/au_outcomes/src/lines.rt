@@ -51,7 +51,6 @@ fn add_refusal(
         Refusal::Typing(fault) => add_typing(alloc, text, fault, files),
         Refusal::Linear(fault) => add_life(alloc, text, fault, files),
         Refusal::Entry(entry) => add_entry(text, entry),
-        Refusal::Stuck => add_stuck(text),
     }
 }
 
@@ -207,14 +206,6 @@ fn add_entry(text: &mut Vec<u8>, entry: &Entry) -> Result<(), Memory>
     text.extend_from_slice(entry.module.as_bytes())?;
     text.extend_from_slice(b":")?;
     text.extend_from_slice(entry.function.as_bytes())?;
-    Ok(())
-}
-
-/// Adds that a program came to what is not built yet while it ran.
-fn add_stuck(text: &mut Vec<u8>) -> Result<(), Memory>
-    ensures { OnOk result (text.new.items ≡ text.old.items ++ lines.stuck_text) }
-{
-    text.extend_from_slice(b"stuck")?;
     Ok(())
 }
 

@@ -29,6 +29,4 @@ pub enum Refusal {
     Linear(LinearFault),
     /// The program has no function or test of this name to begin with, or it hasn't the form of one.
     Entry(Entry),
-    /// The program came to what is not built yet while it ran.
-    Stuck,
 }

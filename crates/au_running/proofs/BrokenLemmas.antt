@@ -1,5 +1,6 @@
--- What runs show of what is meant that were broken off, that wait for a byte, or that are stuck.
-use Rattle.std.proofs.Common.{◌≡◌, ◌⊎◌, inl, inr, ℕ, Bool, false, List, ◌++◌, Option, refl, subst}
+-- What runs show of what is meant that were broken off, or that wait for a byte, and which code is stuck.
+use Rattle.std.proofs.Common.{◌≡◌, ◌⊎◌, inl, inr, ℕ, Bool, false, List, ◌++◌, Option, None, Some, refl, subst}
+use Rattle.std.specs.Prelude.{IsSomeAnd}
 use Rattle.au_low.specs.Runs as low
 use Rattle.au_low.specs.Runs.{low_run}
 use Rattle.au_low.specs.declared.code.Code.{Code}
@@ -11,8 +12,8 @@ use Rattle.au_meaning.specs.Worlds.{Ending, Outcome, exit, abort, running, stuck
 use Rattle.au_meaning.proofs.Growing.{begins_refl}
 use Rattle.au_runs.specs.Calls.{IsCut}
 use Rattle.au_running.specs.Came.{CodeEnds}
-use Rattle.au_running.specs.Fronts.{CutRunsWriteFronts, IsStuckAsMeant, RunsWriteFronts, StuckAnswersAreMeant}
-use Rattle.au_running.specs.Fronts.{StuckRunsAreMeant, WaitingRunsShow, WaitsAsMeant, WritesFront}
+use Rattle.au_running.specs.Fronts.{CutRunsWriteFronts, RunsWriteFronts, StuckRunsAreMeant, WaitingRunsShow}
+use Rattle.au_running.specs.Fronts.{WaitsAsMeant, WritesFront}
 use Rattle.au_running.specs.Meant.{means}
 use Rattle.au_running.specs.Runs.{Refines, ran_by}
 use Rattle.au_running.specs.Shown.{AnswerShows}
@@ -20,7 +21,7 @@ use Rattle.au_running.specs.declared.ran.Ran.{Ran}
 use Rattle.au_running.specs.declared.ran.Ran.TheVariants as how
 use Rattle.au_running.proofs.AnswerLemmas.{came_cut}
 use Rattle.au_running.proofs.FrontLemmas.{front_of_whole}
-use Rattle.au_running.proofs.MutedLemmas.{made_muted, waited_muted}
+use Rattle.au_running.proofs.MutedLemmas.{waited_muted}
 use Rattle.au_running.proofs.RunLemmas.{runs_shown}
 use Rattle.au_syntax.specs.Plain.{Bytes}
 
@@ -32,14 +33,6 @@ stuck_or_not (exit success) = inr (λ h. cc)
 stuck_or_not (abort fault) = inr (λ h. cc)
 stuck_or_not running = inr (λ h. cc)
 stuck_or_not stuck = inl refl
-
--- a run of code of which it's answered that it is stuck is
-stuck_answered : (code : Code) (end : low_endings.Ending) → how.Stuck ≡ ran_by code end
-    → end ≡ low_ending.Stuck
-stuck_answered code (low_ending.Exit success) is = absurd cc
-stuck_answered code (low_ending.Abort why) is = absurd cc
-stuck_answered code low_ending.Steps is = absurd cc
-stuck_answered code low_ending.Stuck is = refl
 
 -- what a run shows was written begins what is meant
 shown_begins : (ran : Ran) (meant : ℕ → Outcome) (limit : ℕ) (written left : List ℕ)
@@ -53,9 +46,14 @@ shown_begins (how.Abort words) meant limit written left shows =
     subst (λ (all : List ℕ). Begins all (meant limit).world.output) shows.1.output
     (begins_refl (meant limit).world.output)
 shown_begins how.Steps meant limit written left shows = shows.to
-shown_begins how.Stuck meant limit written left shows = absurd shows
 shown_begins how.ReadFault meant limit written left shows = absurd shows
 shown_begins how.WriteFault meant limit written left shows = absurd shows
+
+-- so it is of a run of which something is answered
+any_begins : (o : Option Ran) (meant : ℕ → Outcome) (limit : ℕ) (written left : List ℕ)
+    → IsSomeAnd o (λ ran. AnswerShows ran meant limit written left) → Begins written (meant limit).world.output
+any_begins None meant limit written left shows = absurd shows
+any_begins (Some ran) meant limit written left shows = shown_begins ran meant limit written left shows
 
 -- ---- of code each run of which shows what is meant
 
@@ -68,7 +66,7 @@ module _ (code : Code) (meant : List ℕ → ℕ → Outcome) (runs : Refines co
     front = λ unstuck.
         let run = low_run false code cut.input steps in
         front_of_whole out out' run.output (meant cut.input steps).world.output
-        (shown_begins (ran_by code run.ending) (meant cut.input) steps run.output run.left
+        (any_begins (ran_by code run.ending) (meant cut.input) steps run.output run.left
         (runs cut.input steps unstuck))
         cut.front;
   }
@@ -87,8 +85,9 @@ module _ (code : Code) (meant : List ℕ → ℕ → Outcome) (runs : Refines co
         within = waited.within;
         so_far = λ rest unstuck.
             let input = waited.taken ++ rest in
-            subst (λ (o : low.Outcome). AnswerShows (ran_by code o.ending) (meant input) waited.made o.output
-            o.left) (waited.so_far rest) (runs input waited.made unstuck);
+            subst (λ (o : low.Outcome). IsSomeAnd (ran_by code o.ending)
+            (λ ran. AnswerShows ran (meant input) waited.made o.output o.left)) (waited.so_far rest)
+            (runs input waited.made unstuck);
       }
 
   stuck_meant : (input : List ℕ) (limit : ℕ) → (low_run false code input limit).ending ≡ low_ending.Stuck
@@ -100,22 +99,8 @@ module _ (code : Code) (meant : List ℕ → ℕ → Outcome) (runs : Refines co
       by (inl so) = so
       by (inr unstuck) =
           let run = low_run false code input limit in
-          absurd (subst (λ (end : low_endings.Ending). AnswerShows (ran_by code end) (meant input) limit
-          run.output run.left) is (runs input limit unstuck))
-
-  stuck_as_meant : (life : Bool) (lines : Bytes) (steps : ℕ) (told left out out' : Option (List ℕ))
-      → CodeEnds code life how.Stuck lines steps told left out out' → IsStuckAsMeant meant steps told left
-  stuck_as_meant life lines steps told left out out' came =
-      let made = made_muted life code came.ending steps told left out out' came.events came.made in
-      record {
-        taken = made.taken;
-        rest = made.rest;
-        input = made.input;
-        ending = stuck_meant (made.taken ++ made.rest) steps
-            (subst (λ (end : low_endings.Ending).
-            (low_run false code (made.taken ++ made.rest) steps).ending ≡ end)
-            (stuck_answered code came.ending came.answer) made.ending);
-      }
+          absurd (subst (λ (end : low_endings.Ending). IsSomeAnd (ran_by code end)
+          (λ ran. AnswerShows ran (meant input) limit run.output run.left)) is (runs input limit unstuck))
 
 -- ---- of programs that are lowered
 
@@ -137,9 +122,4 @@ waiting_runs_show program noted owner name c closes runnable =
 pub stuck_runs_are_meant : StuckRunsAreMeant
 stuck_runs_are_meant program noted owner name c closes runnable =
     stuck_meant (code_of c) (means program noted closes.entry)
-    (runs_shown program noted owner name c closes runnable)
-
-pub stuck_answers_are_meant : StuckAnswersAreMeant
-stuck_answers_are_meant program noted owner name c closes runnable =
-    stuck_as_meant (code_of c) (means program noted closes.entry)
     (runs_shown program noted owner name c closes runnable)

@@ -1,6 +1,7 @@
 -- Every run of the code of a good program shows what the program means.
 use Rattle.std.proofs.Common.{◌≡◌, ℕ, ◌+◌, ◌-◌, ◌*◌, ◌/◌, ◌≤◌, Bool, true, false, List, refl, sym, ap, subst}
 use Rattle.std.proofs.Common.{◌∙◌, arith, slice_get, leb-true}
+use Rattle.std.specs.Prelude.{IsSomeAnd}
 use Rattle.au_type_texts.specs.Types.{ClosedType}
 use Rattle.au_effects.specs.Answers as answer
 use Rattle.au_low.proofs.MutedRuns.{kept}
@@ -108,11 +109,11 @@ module _ {T C : Type 0} (told : ClosedType → LowType) (functions : List (Funct
 
   -- by how it ended
   shown_by : (end : Ending) → full.ending ≡ end
-      → AnswerShows (ran_by code end) meant limit plain.output plain.left
+      → IsSomeAnd (ran_by code end) (λ ran. AnswerShows ran meant limit plain.output plain.left)
       → RefinesOn code meant input limit
   shown_by end e shows =
-      subst (λ (end : Ending). AnswerShows (ran_by code end) meant limit plain.output plain.left)
-      (sym (ends_alike ∙ e)) shows
+      subst (λ (end : Ending). IsSomeAnd (ran_by code end)
+      (λ ran. AnswerShows ran meant limit plain.output plain.left)) (sym (ends_alike ∙ e)) shows
 
   exit_shown : (success : Bool) → full.ending ≡ low_ending.Exit success → RefinesOn code meant input limit
   exit_shown success e =

@@ -1,6 +1,7 @@
 -- What is answered of a run of a program's code is so of the program.
-use Rattle.std.proofs.Common.{◌≡◌, ℕ, Bool, true, false, List, ◌++◌, Option, Result, Ok, Err, ap, subst, sym}
-use Rattle.std.proofs.Common.{◌∙◌}
+use Rattle.std.proofs.Common.{◌≡◌, ℕ, Bool, true, false, List, [], ◌++◌, Option, Some, Result, Ok, Err, ap, subst}
+use Rattle.std.proofs.Common.{sym, ◌∙◌}
+use Rattle.std.specs.Prelude.{IsSomeAnd}
 use Rattle.std.proofs.Common.{true≢false}
 use Rattle.au_base.specs.declared.limits.Limit.{Limit}
 use Rattle.au_typing.specs.Trees.{NotedParts}
@@ -12,14 +13,16 @@ use Rattle.au_low.specs.Runs.{low_run}
 use Rattle.au_lowering.specs.Closed.{code_of}
 use Rattle.au_modules.specs.Programs.{ModuleParts}
 use Rattle.au_lowering.specs.Faults.{IsDerived}
-use Rattle.au_rules.specs.Good.{AllDeclarationsAreGood}
+use Rattle.au_meaning.specs.Worlds.{stuck}
 use Rattle.au_runs.specs.Calls.{IsCut}
-use Rattle.au_running.specs.Came.{CodeEnds, CodeCompletes}
+use Rattle.au_running.specs.Came.{CodeCompletes, CodeEnds, IsNeverStuck}
 use Rattle.au_running.specs.Coded.{HasCode, IsProgramCode}
+use Rattle.au_running.specs.Fronts.{StuckRunsAreMeant}
 use Rattle.au_running.specs.Lines.{deeds_told}
 use Rattle.au_running.specs.Meant.{means}
-use Rattle.au_running.specs.Ran.{CompletesAsMeant, IsLowered, LivesAsMeant, ProgramEnds, ProgramIsCut}
-use Rattle.au_running.specs.Runs.{LoweredProgramsRun, ran_by}
+use Rattle.au_running.specs.Ran.{IsLowered, IsSafeFrom, LivesAsMeant, ProgramEnds, ProgramIsCut, RunsAsMeant}
+use Rattle.au_running.specs.Runs.{IsRunnable, LoweredProgramsRun, ran_by}
+use Rattle.au_running.specs.Shown.{AnswerShows}
 use Rattle.au_running.specs.Tells.{EventsShow, LoweredProgramsTell, type_words}
 use Rattle.au_running.specs.declared.coding.Uncoded.{Uncoded}
 use Rattle.au_running.specs.declared.coding.Uncoded.TheVariants as uncoded
@@ -27,16 +30,18 @@ use Rattle.au_running.specs.declared.ran.Ran.{Ran}
 use Rattle.au_running.specs.declared.ran.Ran.TheVariants as how
 use Rattle.au_running.proofs.AnswerLemmas.{came_cut}
 use Rattle.au_running.proofs.FrontLemmas.{given_by}
+use Rattle.au_running.proofs.MutedLemmas.{made_muted}
 use Rattle.au_syntax.specs.Plain.{Bytes}
 
 -- no run of code is answered as one that didn't begin
-begun : {T : Type 0} (code : Code) (end : Ending) → how.NoEntry ≡ ran_by code end → T
+begun : {T : Type 0} (code : Code) (end : Ending) → ran_by code end ≡ Some how.NoEntry → T
 begun code (ending.Exit success) is = absurd cc
 begun code (ending.Abort why) is = absurd cc
 begun code ending.Steps is = absurd cc
 begun code ending.Stuck is = absurd cc
 
-unlimited : {T : Type 0} (code : Code) (limit : Limit) (end : Ending) → how.Limit limit ≡ ran_by code end → T
+unlimited : {T : Type 0} (code : Code) (limit : Limit) (end : Ending)
+    → ran_by code end ≡ Some (how.Limit limit) → T
 unlimited code limit (ending.Exit success) is = absurd cc
 unlimited code limit (ending.Abort why) is = absurd cc
 unlimited code limit ending.Steps is = absurd cc
@@ -63,46 +68,85 @@ module _ (program : List ModuleParts) (noted : List NotedParts) (owner name : By
   ran_broken life ran lines steps told left out out' run =
       (run.0, came_cut (code_of run.0.c) life ran lines steps told left out out' run.1)
 
-  -- where its declarations are good, its runs are spoken of
-  pub as_meant : IsDerived program noted → AllDeclarationsAreGood program → (life : Bool) (ran : Ran)
-      (lines : Bytes) (steps : ℕ)
-      (told left out out' : Option (List ℕ)) → (it : IsLowered program noted owner name)
-      → CodeCompletes (code_of it.c) life ran lines steps told left out out'
-      → CompletesAsMeant program noted owner name life ran lines steps told left out out'
-  as_meant derived declared life ran lines steps told left out out' it run = record {
-    it = it;
-    run = run;
-    shows = it.meant (record { derived = derived; declared = declared });
-    tells = it.tells (record { derived = derived; declared = declared });
-  }
+  -- for a program that is safe to run from its entry, and a run of the code that it's lowered to
+  module _ (derived : IsDerived program noted) (safe : IsSafeFrom program owner name)
+      (it : IsLowered program noted owner name) where
+    runnable : IsRunnable program noted
+    runnable = record { derived = derived; declared = safe.declared }
 
-  -- what the lines of its events show, where they are asked for
-  pub lives_meant : (life : Bool) (ran : Ran) (lines : Bytes) (steps : ℕ) (told left out out' : Option (List ℕ))
-      → CompletesAsMeant program noted owner name life ran lines steps told left out out' → life ≡ true
-      → LivesAsMeant program noted owner name ran lines steps told
-  lives_meant false ran lines steps told left out out' done is = absurd (true≢false (sym is))
-  lives_meant true ran lines steps told left out out' done is =
-      let code = code_of done.it.c in
-      let run = done.run in
-      let made = run.made in
-      let input = made.taken ++ made.rest in
-      let words = type_words done.it.c.types in
-      let meant = means program noted done.it.closes.closes.entry in
-      let answered : ran_by code (low_run true code input steps).ending ≡ ran =
-      ap (ran_by code) made.ending ∙ sym run.answer in
-      record {
-        it = done.it;
-        input = input;
-        given = given_by told left made.taken made.rest made.input.before made.input.after;
-        deeds = deeds_told code run.events;
-        are_lines = run.tells;
-        shows = λ unstuck.
-            subst (λ (events : List (Deed ℕ)). EventsShow words ran (meant input) steps
-            (deeds_told code events)) (sym made.tells)
-            (subst (λ (ran : Ran). EventsShow words ran (meant input) steps
-            (deeds_told code (low_run true code input steps).events)) answered
-            (done.tells input steps unstuck));
-      }
+    -- what the program means isn't stuck
+    unstuck : (input : List ℕ) (ticks : ℕ)
+        → (means program noted it.closes.closes.entry input ticks).ending ≡ stuck → ⊥
+    unstuck = safe.unstuck noted derived it.closes.closes.entry it.c.root it.closes.closes.begins_there
+
+    module _ (ran : Ran) (lines : Bytes) (steps : ℕ) (told left out out' : Option (List ℕ)) where
+      -- what is answered shows what the program means
+      pub as_meant : (life : Bool) → CodeCompletes (code_of it.c) life ran lines steps told left out out'
+          → RunsAsMeant program noted owner name ran steps told left out out'
+      as_meant life run =
+          let closes = it.closes.closes in
+          let code = code_of it.c in
+          let made = made_muted life code run.ending steps told left out out' run.events run.made in
+          let input = made.taken ++ made.rest in
+          let meant = means program noted closes.entry in
+          let seen = low_run false code input steps in
+          record {
+            entry = closes.entry;
+            root = it.c.root;
+            begins_there = closes.begins_there;
+            shows = record {
+              taken = made.taken;
+              rest = made.rest;
+              input = made.input;
+              written = seen.output;
+              output = made.output;
+              shows =
+                  subst (λ (left : List ℕ). AnswerShows ran (meant input) steps seen.output left) made.left_over
+                  (subst (λ (o : Option Ran). IsSomeAnd o (λ ran. AnswerShows ran (meant input) steps seen.output
+                  seen.left)) (ap (ran_by code) made.ending ∙ run.answer)
+                  (it.meant runnable input steps (unstuck input steps)));
+            };
+          }
+
+      -- what the lines of its events show, where they are asked for
+      pub lives_meant : (life : Bool) → CodeCompletes (code_of it.c) life ran lines steps told left out out'
+          → life ≡ true → LivesAsMeant program noted owner name ran lines steps told
+      lives_meant false run is = absurd (true≢false (sym is))
+      lives_meant true run is =
+          let code = code_of it.c in
+          let made = run.made in
+          let input = made.taken ++ made.rest in
+          let words = type_words it.c.types in
+          let meant = means program noted it.closes.closes.entry in
+          record {
+            it = it;
+            input = input;
+            given = given_by told left made.taken made.rest made.input.before made.input.after;
+            deeds = deeds_told code run.events;
+            are_lines = run.tells;
+            shows =
+                subst (λ (events : List (Deed ℕ)). EventsShow words ran (meant input) steps
+                (deeds_told code events)) (sym made.tells)
+                (subst (λ (o : Option Ran). IsSomeAnd o (λ ran. EventsShow words ran (meant input) steps
+                (deeds_told code (low_run true code input steps).events)))
+                (ap (ran_by code) made.ending ∙ run.answer)
+                (it.tells runnable input steps (unstuck input steps)));
+          }
+
+      -- there are none where they aren't
+      pub lives_none : (life : Bool) → CodeCompletes (code_of it.c) life ran lines steps told left out out'
+          → life ≡ false → lines ≡ []
+      lives_none true run is = absurd (true≢false is)
+      lives_none false run is = run.tells
+
+  -- the code of a program that is safe to run is never stuck
+  pub never_stuck : StuckRunsAreMeant → IsDerived program noted → IsSafeFrom program owner name → (code : Code)
+      → HasCode program noted owner name (Ok code) → IsNeverStuck code
+  never_stuck law derived safe code has input limit is =
+      let closes = has.1.closes in
+      safe.unstuck noted derived closes.entry has.0.root closes.begins_there input limit
+      (law program noted owner name has.0 closes (record { derived = derived; declared = safe.declared }) input limit
+      (subst (λ (code : Code). (low_run false code input limit).ending ≡ ending.Stuck) has.3 is))
 
   module _ (law : LoweredProgramsRun) (also : LoweredProgramsTell)
       (code : Code) (has : HasCode program noted owner name (Ok code)) where

@@ -1,6 +1,6 @@
 -- The events of every run of the code of a program are those of what the program means.
 use Rattle.std.proofs.Common.{◌≡◌, ℕ, ◌/◌, true, List, map, refl, sym, ap, subst, ◌∙◌, arith}
-use Rattle.std.specs.Prelude.{slice_get}
+use Rattle.std.specs.Prelude.{IsSomeAnd, slice_get}
 use Rattle.std.proofs.lemmas.List.{map-append}
 use Rattle.au_syntax.specs.Plain.{Bytes}
 use Rattle.au_modules.specs.Programs.{ModuleParts}
@@ -76,7 +76,7 @@ module _ {T C : Type 0} (told : ClosedType → LowType) (functions : List (Funct
 
   -- by how it ended
   told_by : (end : Ending) → full.ending ≡ end
-      → EventsShow words (ran_by code end) meant limit (deeds_told code full.events)
+      → IsSomeAnd (ran_by code end) (λ ran. EventsShow words ran meant limit (deeds_told code full.events))
   told_by (low_ending.Exit success) e = ended_tells (λ cut. not_steps (sym e ∙ cut))
     where
       not_steps : low_ending.Exit success ≡ low_ending.Steps → ⊥

@@ -1,8 +1,9 @@
 -- What is answered of a run of code.
-use Rattle.std.specs.Prelude.{◌≡◌, ◌⊎◌, ℕ, Bool, false, IsTrue, List, Option}
+use Rattle.std.specs.Prelude.{◌≡◌, ◌≢◌, ◌⊎◌, ℕ, Bool, true, false, IsTrue, List, Option, None, Some}
 use Rattle.au_effects.specs.Worlds.{Deed}
 use Rattle.au_low.specs.declared.code.Code.{Code}
 use Rattle.au_low.specs.declared.endings.Ending.{Ending}
+use Rattle.au_low.specs.declared.endings.Ending.TheVariants as ending
 use Rattle.au_low.specs.Runs.{low_run}
 use Rattle.au_runs.specs.Calls.{HasWaited, IsCut, IsMade}
 use Rattle.au_runs.specs.declared.ends.End.{End}
@@ -13,14 +14,23 @@ use Rattle.au_running.specs.declared.ran.Ran.{Ran}
 use Rattle.au_running.specs.declared.ran.Ran.TheVariants as ran
 use Rattle.au_syntax.specs.Plain.{Bytes}
 
--- what is answered of a run of code, by how the call of the machine ended
-abbrev pub ran_of : Code → End → Ran
-ran_of code (end.Exit success) = ran.Exit success
-ran_of code (end.Abort why) = ran.Abort (kind_words code why)
-ran_of code end.Steps = ran.Steps
-ran_of code end.Stuck = ran.Stuck
-ran_of code end.ReadFault = ran.ReadFault
-ran_of code end.WriteFault = ran.WriteFault
+-- Code is never stuck: whatever input comes, and however many steps its run may make.
+abbrev pub IsNeverStuck : Code → Type 0
+IsNeverStuck code = (input : List ℕ) (limit : ℕ) → (low_run false code input limit).ending ≢ ending.Stuck
+
+-- what is answered of a run of code, by how the call of the machine ended: nothing where it is stuck
+abbrev pub ran_of : Code → End → Option Ran
+ran_of code (end.Exit success) = Some (ran.Exit success)
+ran_of code (end.Abort why) = Some (ran.Abort (kind_words code why))
+ran_of code end.Steps = Some ran.Steps
+ran_of code end.Stuck = None
+ran_of code end.ReadFault = Some ran.ReadFault
+ran_of code end.WriteFault = Some ran.WriteFault
+
+-- whether a call of the machine ended in another way than that its run is stuck
+abbrev pub is_unstuck : End → Bool
+is_unstuck end.Stuck = false
+is_unstuck other = true
 
 -- it ended by an abort
 abbrev pub IsAbort : End → Type 0
@@ -50,7 +60,7 @@ NeedsMemory life ended = IsAbort ended ⊎ IsTrue (is_told life ended)
 pub record CodeCompletes (code : Code) (life : Bool) (ran : Ran) (lines : Bytes) (steps : ℕ)
     (told left out out' : Option (List ℕ)) : Type 0 where
   pub ending : Ending
-  pub answer : ran ≡ ran_by code ending
+  pub answer : ran_by code ending ≡ Some ran
   pub events : List (Deed ℕ)
   pub made : IsMade ending (low_run life code) steps told left out out' events
   pub tells : lines ≡ told_lines life code events

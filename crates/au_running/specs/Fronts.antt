@@ -1,5 +1,5 @@
--- What runs show of what is meant that were broken off, that wait for a byte which couldn't be read, or that
--- are stuck.
+-- What runs show of what is meant that were broken off, or that wait for a byte which couldn't be read, and
+-- which code is stuck.
 use Rattle.std.specs.Prelude.{◌≡◌, ℕ, ◌<◌, Bool, false, List, ◌++◌, Option, IfSome}
 use Rattle.std.specs.Option.{option_map}
 use Rattle.au_base.specs.Outside.{Adds, AddsFront}
@@ -17,7 +17,7 @@ use Rattle.au_running.specs.Runs.{IsRunnable}
 use Rattle.au_running.specs.Shown.{IsCutOff}
 use Rattle.au_running.specs.declared.ran.Ran.{Ran}
 use Rattle.au_running.specs.declared.ran.Ran.TheVariants as ran
-use Rattle.au_runs.specs.Calls.{IsCut, Takes}
+use Rattle.au_runs.specs.Calls.{IsCut}
 use Rattle.au_syntax.specs.Plain.{Bytes}
 
 -- ---- what is shown
@@ -42,14 +42,6 @@ pub record WaitsAsMeant (meant : List ℕ → ℕ → Outcome) (most : ℕ) (tol
   pub within : made < most
   pub so_far : (rest : List ℕ) → ((meant (taken ++ rest) made).ending ≡ stuck → ⊥)
       → IsCutOff (meant (taken ++ rest)) made output
-
--- What is meant on the bytes that were taken and the rest is stuck within so many ticks.
-pub record IsStuckAsMeant (meant : List ℕ → ℕ → Outcome) (ticks : ℕ) (told left : Option (List ℕ))
-    : Type 0 where
-  pub taken : List ℕ
-  pub rest : List ℕ
-  pub input : Takes told left taken rest
-  pub ending : (meant (taken ++ rest) ticks).ending ≡ stuck
 
 -- ---- of which programs
 
@@ -88,9 +80,3 @@ abbrev pub StuckRunsAreMeant : Type 0
 StuckRunsAreMeant = OfLoweredPrograms (λ code meant.
     (input : List ℕ) (limit : ℕ)
     → (low_run false code input limit).ending ≡ ending.Stuck → (meant input limit).ending ≡ stuck)
-
--- So it is where it is answered that a run is stuck.
-abbrev pub StuckAnswersAreMeant : Type 0
-StuckAnswersAreMeant = OfLoweredPrograms (λ code meant.
-    (life : Bool) (lines : Bytes) (steps : ℕ) (told left out out' : Option (List ℕ))
-    → CodeEnds code life ran.Stuck lines steps told left out out' → IsStuckAsMeant meant steps told left)

@@ -1,21 +1,25 @@
 -- What a call that runs a program has done, by the code that the program is lowered to, and what that shows
 -- of what the program means.
-use Rattle.std.specs.Prelude.{◌≡◌, ◌⊎◌, ℕ, Bool, true, false, List, [], Option, IfSome}
+use Rattle.std.specs.Prelude.{◌≡◌, ◌≢◌, ◌⊎◌, ℕ, Bool, true, false, List, [], Option, IfSome}
 use Rattle.au_base.specs.declared.limits.Limit.{Limit}
 use Rattle.au_base.specs.declared.places.Pos.{Pos}
 use Rattle.au_modules.specs.Programs.{ModuleParts}
+use Rattle.au_names.specs.declared.targets.Target.{Target}
+use Rattle.au_rules.specs.Good.{AllDeclarationsAreGood}
 use Rattle.au_typing.specs.Trees.{NotedParts}
-use Rattle.au_closing.specs.Entries.{entry_of, not_of_the_form, nowhere}
+use Rattle.au_closing.specs.Entries.{begins, entry_of, not_of_the_form, nowhere}
 use Rattle.au_lowering.specs.ClosedPrograms.Answers.{ClosesWithin, Passes}
+use Rattle.au_lowering.specs.Faults.{IsDerived}
 use Rattle.au_lowering.specs.Programs.{ClosedProgram}
 use Rattle.au_effects.specs.Worlds.{Deed}
 use Rattle.au_low.specs.Runs.{low_run}
 use Rattle.au_lowering.specs.Answers.{too_long}
 use Rattle.au_lowering.specs.Closed.{code_of, is_too_long}
 use Rattle.au_meaning.specs.Worlds.{stuck}
-use Rattle.au_running.specs.Came.{CodeEnds, CodeCompletes}
+use Rattle.au_running.specs.Came.{CodeEnds}
 use Rattle.au_running.specs.Meant.{means}
 use Rattle.au_running.specs.Runs.{IsRunnable, Refines}
+use Rattle.au_running.specs.Shown.{CallShows}
 use Rattle.au_running.specs.Lines.{deed_lines}
 use Rattle.au_running.specs.Tells.{EventsShow, TellsMeant, type_words}
 use Rattle.au_runs.specs.Calls.{IsCut}
@@ -26,6 +30,15 @@ use Rattle.au_syntax.specs.Plain.{Bytes}
 -- Nothing was written, and nothing of the input was taken.
 abbrev pub IsIdle : (told left out out' : Option (List ℕ)) → Type 0
 IsIdle told left out out' = (left ≡ told) × (out' ≡ out)
+
+-- A program is safe to run from an entry: its declarations are good, and what it means from there, with whichever
+-- notes the rules of typing derive it, is never stuck, whatever input comes and for however many ticks.
+pub record IsSafeFrom (program : List ModuleParts) (owner name : Bytes) : Type 0 where
+  pub declared : AllDeclarationsAreGood program
+  pub unstuck :
+      (noted : List NotedParts) → IsDerived program noted → (entry : Target) (root : Bool)
+      → entry_of program owner name ≡ begins entry root → (input : List ℕ) (ticks : ℕ)
+      → (means program noted entry input ticks).ending ≢ stuck
 
 module _ (program : List ModuleParts) (noted : List NotedParts) (owner name : Bytes) where
   -- There is no entry of this name, or it hasn't the form of one.
@@ -60,20 +73,17 @@ module _ (program : List ModuleParts) (noted : List NotedParts) (owner name : By
   ProgramIsCut steps told out out' =
       (it : IsLowered) × IsCut (low_run false (code_of it.c)) steps told out out'
 
-  -- A run of the program's code was completed, and this is answered of it, with these lines of its events
-  -- where they are asked for. And where what the program means isn't stuck within as many ticks as the run had
-  -- steps, it shows that, as every run of the code does, and so do its events.
-  pub record CompletesAsMeant (life : Bool) (ran : Ran) (lines : Bytes) (steps : ℕ)
-      (told left out out' : Option (List ℕ)) : Type 0 where
-    pub it : IsLowered
-    pub run : CodeCompletes (code_of it.c) life ran lines steps told left out out'
-    pub shows : Refines (code_of it.c) (means program noted it.closes.closes.entry)
-    pub tells :
-        TellsMeant (type_words it.c.types) (code_of it.c) (means program noted it.closes.closes.entry)
+  -- This is answered of a run of the program for at most so many steps, and shows what the program means from its
+  -- entry.
+  pub record RunsAsMeant (ran : Ran) (steps : ℕ) (told left out out' : Option (List ℕ)) : Type 0 where
+    pub entry : Target
+    pub root : Bool
+    pub begins_there : entry_of program owner name ≡ begins entry root
+    pub shows : CallShows (means program noted entry) ran steps told left out out'
 
-  -- These are the lines of the events of a run of the program's code on an input, of which this is answered.
-  -- Where what the program means on it isn't stuck within as many ticks as the run had steps, the events are
-  -- those of that, if the run has ended, and lie between those of that, if its steps were spent.
+  -- These are the lines of the events of a run of the program on an input, of which this is answered: the
+  -- events are those of what the program means on it, if the run has ended, and lie between those of that, if
+  -- its steps were spent. A type is told by its text.
   pub record LivesAsMeant (ran : Ran) (lines : Bytes) (steps : ℕ) (told : Option (List ℕ)) : Type 0 where
     pub it : IsLowered
     pub input : List ℕ
@@ -81,8 +91,7 @@ module _ (program : List ModuleParts) (noted : List NotedParts) (owner name : By
     pub deeds : List (Deed Bytes)
     pub are_lines : lines ≡ deed_lines deeds
     pub shows :
-        ((means program noted it.closes.closes.entry input steps).ending ≡ stuck → ⊥)
-        → EventsShow (type_words it.c.types) ran (means program noted it.closes.closes.entry input) steps deeds
+        EventsShow (type_words it.c.types) ran (means program noted it.closes.closes.entry input) steps deeds
 
   -- What an answer says, and these lines, of a call that was to run the program for at most so many steps:
   -- there is no such entry, or a limit is passed, and nothing was done; or the program ran as code, and its
@@ -102,7 +111,6 @@ is_read_fault (ran.Limit limit) = false
 is_read_fault (ran.Exit success) = false
 is_read_fault (ran.Abort words) = false
 is_read_fault ran.Steps = false
-is_read_fault ran.Stuck = false
 is_read_fault ran.ReadFault = true
 is_read_fault ran.WriteFault = false
 
@@ -112,6 +120,5 @@ is_write_fault (ran.Limit limit) = false
 is_write_fault (ran.Exit success) = false
 is_write_fault (ran.Abort words) = false
 is_write_fault ran.Steps = false
-is_write_fault ran.Stuck = false
 is_write_fault ran.ReadFault = false
 is_write_fault ran.WriteFault = true

@@ -1,5 +1,5 @@
 -- That runs of the code of a program show what the program means.
-use Rattle.std.specs.Prelude.{◌≡◌, ℕ, false, List, codes}
+use Rattle.std.specs.Prelude.{◌≡◌, ℕ, false, List, Option, None, Some, IsSomeAnd, codes}
 use Rattle.au_shipped.specs.declared.prims.AbortKind.{AbortKind}
 use Rattle.au_shipped.specs.declared.prims.AbortKind.TheVariants as kind
 use Rattle.au_modules.specs.Programs.{ModuleParts}
@@ -28,18 +28,19 @@ kind_words code kind.NotEmpty = codes "buffer not empty"
 kind_words code kind.Empty = codes "buffer empty"
 kind_words code kind.OutOfRange = codes "out of range"
 
--- what is answered of a run of code that ended so
-abbrev pub ran_by : Code → Ending → Ran
-ran_by code (ending.Exit success) = ran.Exit success
-ran_by code (ending.Abort why) = ran.Abort (kind_words code why)
-ran_by code ending.Steps = ran.Steps
-ran_by code ending.Stuck = ran.Stuck
+-- what is answered of a run of code that ended so: nothing of one that is stuck
+abbrev pub ran_by : Code → Ending → Option Ran
+ran_by code (ending.Exit success) = Some (ran.Exit success)
+ran_by code (ending.Abort why) = Some (ran.Abort (kind_words code why))
+ran_by code ending.Steps = Some ran.Steps
+ran_by code ending.Stuck = None
 
--- A run of code refines what is meant, on an input and with so many steps: its answer shows that.
+-- A run of code refines what is meant, on an input and with so many steps: it isn't stuck, and its answer
+-- shows that.
 abbrev pub RefinesOn : Code → (ℕ → Outcome) → List ℕ → ℕ → Type 0
 RefinesOn code meant input limit =
-    AnswerShows (ran_by code (low_run false code input limit).ending) meant limit
-    (low_run false code input limit).output (low_run false code input limit).left
+    IsSomeAnd (ran_by code (low_run false code input limit).ending) (λ ran. AnswerShows ran meant limit
+    (low_run false code input limit).output (low_run false code input limit).left)
 
 -- Code refines what is meant: every run of it shows that, where it isn't stuck within as many ticks as the
 -- run has steps.

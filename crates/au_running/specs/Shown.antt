@@ -1,8 +1,10 @@
 -- What a run shows, by what the program means.
-use Rattle.std.specs.Prelude.{◌≡◌, ℕ, ◌/◌, false, List, codes}
+use Rattle.std.specs.Prelude.{◌≡◌, ℕ, ◌/◌, false, List, ◌++◌, Option, codes}
+use Rattle.au_base.specs.Outside.{Adds}
 use Rattle.au_effects.specs.Answers as answer
 use Rattle.au_meaning.specs.Laws.{Begins, is_over}
 use Rattle.au_meaning.specs.Worlds.{Fault, Outcome, exit, abort}
+use Rattle.au_runs.specs.Calls.{Takes}
 use Rattle.au_running.specs.declared.ran.Ran.{Ran}
 use Rattle.au_running.specs.declared.ran.Ran.TheVariants as ran
 use Rattle.au_syntax.specs.Plain.{Bytes}
@@ -30,7 +32,7 @@ pub record IsCutOff (meant : ℕ → Outcome) (limit : ℕ) (written : List ℕ)
 
 -- What an answer shows of the meaning. It is that of a run with so many steps, which had written these bytes
 -- and left those of its input: it returned success or failure, or aborted for a cause that is told in these
--- words, and so does what is meant in as many ticks; or its steps were spent. It isn't stuck.
+-- words, and so does what is meant in as many ticks; or its steps were spent.
 abbrev pub AnswerShows : Ran → (ℕ → Outcome) → ℕ → List ℕ → List ℕ → Type 0
 AnswerShows (ran.Exit success) meant limit written left =
     ((meant limit).ending ≡ exit success) × IsSeen (meant limit) written left
@@ -39,3 +41,15 @@ AnswerShows (ran.Abort words) meant limit written left =
     × IsSeen (meant limit) written left
 AnswerShows ran.Steps meant limit written left = IsCutOff meant limit written
 AnswerShows other meant limit written left = ⊥
+
+-- What a call shows of what is meant, by what it answers of a run with so many steps. It took these bytes of its
+-- input and left the rest, and wrote these, as is told of its input and its output before and behind it; and
+-- its answer, with these, shows what is meant on that input.
+pub record CallShows (meant : List ℕ → ℕ → Outcome) (ran : Ran) (steps : ℕ)
+    (told left out out' : Option (List ℕ)) : Type 0 where
+  pub taken : List ℕ
+  pub rest : List ℕ
+  pub input : Takes told left taken rest
+  pub written : List ℕ
+  pub output : Adds out out' written
+  pub shows : AnswerShows ran (meant (taken ++ rest)) steps written rest

@@ -1,5 +1,5 @@
 -- That the events of runs of a program's code are those of what the program means.
-use Rattle.std.specs.Prelude.{◌≡◌, ℕ, ◌/◌, true, List, map}
+use Rattle.std.specs.Prelude.{◌≡◌, ℕ, ◌/◌, true, List, map, IsSomeAnd}
 use Rattle.au_modules.specs.Programs.{ModuleParts}
 use Rattle.au_typing.specs.Trees.{NotedParts}
 use Rattle.au_type_texts.specs.Types.{ClosedType}
@@ -34,7 +34,7 @@ module _ (words : ClosedType → Bytes) where
     pub to : Begins events (deeds_meant (meant limit))
 
   -- What the events of a run with so many steps show of the meaning, by what is answered of the run: where it
-  -- has ended they are those of what is meant in as many ticks. It isn't stuck.
+  -- has ended they are those of what is meant in as many ticks.
   abbrev pub EventsShow : Ran → (ℕ → Outcome) → ℕ → List (Deed Bytes) → Type 0
   EventsShow (ran.Exit success) meant limit events = deeds_meant (meant limit) ≡ events
   EventsShow (ran.Abort text) meant limit events = deeds_meant (meant limit) ≡ events
@@ -44,8 +44,8 @@ module _ (words : ClosedType → Bytes) where
   -- The events of a run of code show what is meant, on an input and with so many steps.
   abbrev pub TellsOn : Code → (ℕ → Outcome) → List ℕ → ℕ → Type 0
   TellsOn code meant input limit =
-      EventsShow (ran_by code (low_run true code input limit).ending) meant limit
-      (deeds_told code (low_run true code input limit).events)
+      IsSomeAnd (ran_by code (low_run true code input limit).ending) (λ ran. EventsShow ran meant limit
+      (deeds_told code (low_run true code input limit).events))
 
   -- So do those of every run of it that isn't stuck within as many ticks as it has steps.
   abbrev pub TellsMeant : Code → (List ℕ → ℕ → Outcome) → Type 0

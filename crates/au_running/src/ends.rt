@@ -1,12 +1,12 @@
 //! What is answered and told of a run of code, by how it ended.
 
-ghost use Rattle.std.specs.Prelude.{◌≡◌, false, IsTrue, IfOk, OnErr, map};
+ghost use Rattle.std.specs.Prelude.{◌≡◌, false, IsTrue, IfOk, OnErr, Some, map};
 ghost use Rattle.au_low.specs.Instructions.{text_bytes};
 ghost use Rattle.au_low.specs.Runs.{low_run};
 ghost use Rattle.au_running.specs.Runs.{kind_words};
 ghost use Rattle.au_runs.specs.Calls.{IsCut, Rose};
 ghost use Rattle.au_stores.specs.Stores.{deed_of};
-ghost use Rattle.au_running.specs.Came.{CodeEnds, IsAbort, NeedsMemory, ran_of};
+ghost use Rattle.au_running.specs.Came.{CodeEnds, IsAbort, IsNeverStuck, NeedsMemory, is_unstuck, ran_of};
 ghost use Rattle.au_running.specs.Came as spec;
 ghost use Rattle.au_running.specs.Lines.{told_lines};
 ghost use Rattle.au_running.specs.Ran.{is_read_fault, is_write_fault};
@@ -42,13 +42,14 @@ fn words_of(code: &Code, why: AbortKind) -> &[u8]
     }
 }
 
-/// What is answered of a run of code that ended so.
+/// What is answered of a run of code that ended so, and isn't stuck.
 ///
 /// # Errors
 ///
 /// `Memory` when memory runs out, for the words of an abort alone.
 fn answer_of(alloc: Global, code: &Code, end: End) -> Result<Ran, Memory>
-    ensures ran { IfOk result (λ ran. ran ≡ ran_of code.now end) }
+    requires { IsTrue (is_unstuck end) }
+    ensures ran { IfOk result (λ ran. ran_of code.now end ≡ Some ran) }
     ensures words { OnErr result (IsAbort end) }
 {
     match end {
@@ -58,7 +59,7 @@ fn answer_of(alloc: Global, code: &Code, end: End) -> Result<Ran, Memory>
             Ok(Ran::Abort(words))
         }
         End::Steps => Ok(Ran::Steps),
-        End::Stuck => Ok(Ran::Stuck),
+        End::Stuck => unreachable!(),
         End::ReadFault => Ok(Ran::ReadFault),
         End::WriteFault => Ok(Ran::WriteFault),
     }
@@ -102,7 +103,7 @@ fn lines_of(
     }
 }
 
-/// What is told of a run of code that ended so.
+/// What is told of a run of code that ended so, and isn't stuck.
 ///
 /// # Errors
 ///
@@ -114,7 +115,8 @@ fn report_of(
     end: End,
     events: &[Event],
 ) -> Result<Report, Memory>
-    ensures ran { IfOk result (λ report. report.ran ≡ ran_of code.now end) }
+    requires { IsTrue (is_unstuck end) }
+    ensures ran { IfOk result (λ report. ran_of code.now end ≡ Some report.ran) }
     ensures lines { IfOk result (λ report. report.events.items
         ≡ told_lines (spec.is_told life end) code.now (map deed_of events.now)) }
     ensures words { OnErr result (NeedsMemory life end) }
@@ -124,8 +126,8 @@ fn report_of(
     Ok(Report { ran, events: lines })
 }
 
-/// Runs code for at most so many steps, on an input and a sink, and tells the lines of its events where these
-/// are asked for.
+/// Runs code that is never stuck for at most so many steps, on an input and a sink, and tells the lines of its
+/// events where these are asked for.
 ///
 /// # Errors
 ///
@@ -138,6 +140,7 @@ pub fn run_code<I: Source, O: Sink>(
     input: &mut I,
     out: &mut O,
 ) -> Result<Report, Memory>
+    requires { IsNeverStuck code.now }
     ensures came { IfOk result (λ report. CodeEnds code.now life report.ran report.events.items steps
         (I.left input.old) (I.left input.new) (O.written out.old) (O.written out.new)) }
     ensures read { IfOk result (λ report.

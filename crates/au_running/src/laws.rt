@@ -1,9 +1,9 @@
 //! What holds of runs of lowered code, and of the names in closed programs, as contracts of calls that do
 //! nothing.
 
-ghost use Rattle.au_running.specs.Follows.{LoweredProgramsFollow};
-ghost use Rattle.au_running.specs.Fronts.{CutRunsWriteFronts, RunsWriteFronts, StuckAnswersAreMeant};
-ghost use Rattle.au_running.specs.Fronts.{StuckRunsAreMeant, WaitingRunsShow};
+ghost use Rattle.au_running.specs.Follows.{LoweredProgramsFollow, LoweredProgramsKeepStep};
+ghost use Rattle.au_running.specs.Fronts.{CutRunsWriteFronts, RunsWriteFronts, StuckRunsAreMeant};
+ghost use Rattle.au_running.specs.Fronts.{WaitingRunsShow};
 ghost use Rattle.au_running.specs.Once.{ClosedFieldsAreOnce, ClosedParametersAreOnce};
 ghost use Rattle.au_running.specs.Runs.{LoweredProgramsRun};
 ghost use Rattle.au_running.specs.Tells.{LoweredProgramsTell};
@@ -35,6 +35,12 @@ pub fn lowered_programs_follow()
     ensures { LoweredProgramsFollow }
 {}
 
+/// A run of that code ends in step with what the program means from its entry, where that is never stuck: after as
+/// many steps as ticks or more, and at most eight times as many.
+pub fn lowered_programs_keep_step()
+    ensures { LoweredProgramsKeepStep }
+{}
+
 /// Whatever is answered of a run, and where memory ran out, a front of what the program means within as many
 /// ticks as the run may make steps was written, unless that is stuck.
 pub fn runs_write_fronts()
@@ -48,8 +54,7 @@ pub fn waiting_runs_show()
     ensures { WaitingRunsShow }
 {}
 
-/// A run is stuck only where what the program means is stuck within as many ticks as the run may make steps.
+/// A run of code is stuck only where what the program means is stuck within as many ticks as the run may make steps.
 pub fn stuck_runs_are_meant()
-    ensures runs { StuckRunsAreMeant }
-    ensures answers { StuckAnswersAreMeant }
+    ensures { StuckRunsAreMeant }
 {}

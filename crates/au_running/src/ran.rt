@@ -15,8 +15,6 @@ pub enum Ran {
     Abort(Text),
     /// The steps were spent, and the program hasn't ended.
     Steps,
-    /// The program came to where no rule applies.
-    Stuck,
     /// The input couldn't be read.
     ReadFault,
     /// What the program writes couldn't be written.

@@ -4,19 +4,20 @@ ghost use Rattle.std.specs.Prelude.{◌≡◌, ◌⊎◌, false, List, IfOk, OnE
 ghost use Rattle.au_typing.specs.Trees.{NotedParts};
 ghost use Rattle.au_modules.specs.Slots as slots;
 ghost use Rattle.au_lowering.specs.Faults.{IsDerived};
-ghost use Rattle.au_running.specs.Ran.{ProgramEnds, ProgramIsCut, IsIdle, is_read_fault, is_write_fault};
+ghost use Rattle.au_running.specs.Ran.{ProgramEnds, ProgramIsCut, IsIdle, IsSafeFrom, is_read_fault};
+ghost use Rattle.au_running.specs.Ran.{is_write_fault};
 ghost use Rattle.au_runs.specs.Calls.{Rose};
 
 use crate::coding::{Uncoded, closed_code};
 use crate::ends::run_code;
-use crate::laws::{lowered_programs_run, lowered_programs_tell};
+use crate::laws::{lowered_programs_run, lowered_programs_tell, stuck_runs_are_meant};
 use crate::ran::{Ran, Report};
 use au_base::{Entry, Memory, Sink, Source};
 use au_lowering::NotedProgram;
 use std::alloc::Global;
 
-/// Runs an accepted program from the entry that is named by its module and its own name, for at most so many
-/// steps, on an input and a sink, and tells the lines of its events where these are asked for.
+/// Runs a program that is safe to run from the entry which is named by its module and its own name, for at most
+/// so many steps, on an input and a sink, and tells the lines of its events where these are asked for.
 ///
 /// # Errors
 ///
@@ -30,6 +31,7 @@ pub fn run_program<I: Source, O: Sink>(
     input: &mut I,
     out: &mut O,
 ) -> Result<Report, Memory>
+    requires { IsSafeFrom (slots.modules program.now) entry.now.module entry.now.function }
     ensures ran { IfOk result (λ report. (noted : List NotedParts)
         × IsDerived (slots.modules program.now) noted
         × ProgramEnds (slots.modules program.now) noted entry.now.module entry.now.function life report.ran
@@ -46,6 +48,7 @@ pub fn run_program<I: Source, O: Sink>(
 {
     lowered_programs_run();
     lowered_programs_tell();
+    stuck_runs_are_meant();
     match closed_code(alloc, program, entry) {
         Err(Uncoded::NoEntry) => Ok(Report {
             ran: Ran::NoEntry,

@@ -12,7 +12,6 @@ use Rattle.au_words.specs.declared.jobs.Command.TheVariants as command
 use Rattle.au_low.specs.declared.code.Code.{Code}
 use Rattle.au_modules.specs.Slots as slots
 use Rattle.au_outcomes.specs.Lines.{read_fault_line}
-use Rattle.au_rules.specs.Good.{AllDeclarationsAreGood}
 use Rattle.au_runs.specs.Calls.{Rose}
 use Rattle.au_running.specs.Ran.{is_read_fault}
 use Rattle.au_running.specs.declared.coding.Uncoded.{Uncoded}
@@ -40,6 +39,7 @@ use Rattle.au_top.specs.Entered.{IsToRun}
 use Rattle.au_top.specs.Jobs.{asked_by, asked_of}
 use Rattle.au_top.specs.Runs.{EndsAsRun, IsTold, Run, entry_of, run_of, run_status}
 use Rattle.au_top.specs.Shown.{HasLives, IsAsMeant}
+use Rattle.au_top.specs.Sound.{IsSafe}
 use Rattle.au_top.specs.Streams.{AreQuiet, HasFailed, HasStayed, NeverFailed}
 use Rattle.au_top.specs.Texts.{coded_due}
 use Rattle.au_top.proofs.ArisesLemmas.{arises_outcome}
@@ -483,19 +483,17 @@ module _ (call : Call) where
 
   -- What is seen of it is what it means.
   pub ended_shown : Ending → (files : Files) (task : Task) → Tells call files → IsRun call.words task
-      → IsDecided call → (one : Run) → IsToRun files task one → IsAsMeant one call.streams call.status
-  ended_shown h files task is job good one to =
-      run.run_shown one call.streams
-      (subst (λ (it : Run). AllDeclarationsAreGood it.program) (sym to.is_run) to.accepted.declared)
-      call.status
-      (ended_runs h files task is job good one to)
+      → IsDecided call → (one : Run) → IsToRun files task one → IsSafe one.program
+      → IsAsMeant one call.streams call.status
+  ended_shown h files task is job good one to safe =
+      run.run_shown one call.streams safe call.status (ended_runs h files task is job good one to)
 
   -- So are its events, where they are asked for.
   pub ended_lives : Ending → (files : Files) (task : Task) → Tells call files → IsRun call.words task
-      → IsDecided call → (one : Run) → IsToRun files task one → one.life ≡ true
+      → IsDecided call → (one : Run) → IsToRun files task one → IsSafe one.program → one.life ≡ true
       → HasLives one call.streams call.status
-  ended_lives h files task is job good one to asked =
-      run.run_lives one call.streams call.status (ended_shown h files task is job good one to) asked
+  ended_lives h files task is job good one to safe asked =
+      run.run_lives one call.streams safe call.status (ended_runs h files task is job good one to) asked
 
   -- ---- by the status
 
@@ -525,10 +523,8 @@ module _ (call : Call) where
         inl (paid_came _ p (due.refused_so p.names call.status call.streams p.arisen
         (arises_outcome call.words p.files p.names p.arisen p.arises) p.pays is))
     | inr others ↦ elim others [
-      | inl r ↦ elim (run.refused_ran r.0.run.ran (whole_status r.0 status.Refused is)) [
-        | inl e ↦ inr (inl (inl (whole_to r.0 how.NoEntry e)))
-        | inr e ↦ inr (inl (inr (whole_to r.0 how.Stuck e)))
-      ]
+      | inl r ↦
+          inr (inl (whole_to r.0 how.NoEntry (run.refused_ran r.0.run.ran (whole_status r.0 status.Refused is))))
       | inr t ↦ inr (inr (text_refused t.text.0 t.text.1 is))
     ]
   ]

@@ -11,6 +11,8 @@ use Rattle.au_modules.specs.Programs.{ModuleParts}
 use Rattle.au_modules.specs.Slots as slots
 use Rattle.au_typing.specs.Trees.{NotedParts}
 use Rattle.au_running.specs.Programs.{ClosedProgram, Closes}
+use Rattle.au_judged_programs.specs.Sound.{AcceptedProgramsAreSound}
+use Rattle.au_running.specs.Follows.{LoweredProgramsKeepStep}
 use Rattle.au_running.specs.Ran.{HasNoEntry, ProgramEnds}
 use Rattle.au_running.specs.declared.ran.Ran.{Ran}
 use Rattle.au_running.specs.declared.ran.Ran.TheVariants as how
@@ -23,17 +25,19 @@ use Rattle.au_outcomes.specs.declared.outcomes.Outcome.{Outcome}
 use Rattle.au_outcomes.specs.declared.outcomes.Outcome.TheVariants as outcome
 use Rattle.au_outcomes.proofs.AcceptedLemmas.{behind_accepted, comes_asked}
 use Rattle.au_outcomes.proofs.LaidLemmas.{laid_asked}
-use Rattle.au_top.specs.Calls.{Call, ComesToRun, HasSucceeded, IsDecided, IsRunEnd, ReportsRun}
+use Rattle.au_top.specs.Calls.{Call, ComesToRun, HasSucceeded, IsDecided, IsRunEnd}
 use Rattle.au_top.specs.Calls.{ShelfMissedNone}
 use Rattle.au_top.specs.Calls.{ShelfNeverFailed, Tells, is_decided, is_run_end}
 use Rattle.au_top.specs.Dues.{Arises, AsksForTooMany, IsRun}
 use Rattle.au_top.specs.Ends.{HasEnded, HasPaidAll, IsRunWhole}
-use Rattle.au_top.specs.Entered.{CanRun, HasEntry}
+use Rattle.au_top.specs.Entered.{CanRun, HasEntry, IsToRun}
 use Rattle.au_top.specs.Promises.{FilePromises, Promises, RunPromises}
 use Rattle.au_top.specs.Runs.{Run, run_status}
+use Rattle.au_top.specs.Sound.{IsSafe}
 use Rattle.au_top.specs.Streams.{Streams}
 use Rattle.au_top.proofs.DueLemmas as due
 use Rattle.au_top.proofs.EndLemmas as of
+use Rattle.au_top.proofs.SoundLemmas.{accepted_safe, safe_in_step}
 use Rattle.au_top.proofs.FormatLemmas.{ended_formatted, ended_formatted_only}
 use Rattle.au_top.proofs.TextLemmas.{compile_promises}
 
@@ -59,49 +63,41 @@ module _ (program : List ModuleParts) (noted : List NotedParts) (owner name : By
   end_entry (how.Exit success) told left out out' end h none = closes_entry h.0.c h.0.closes.closes none
   end_entry (how.Abort words) told left out out' end h none = closes_entry h.0.c h.0.closes.closes none
   end_entry how.Steps told left out out' end h none = closes_entry h.0.c h.0.closes.closes none
-  end_entry how.Stuck told left out out' end h none = cc
   end_entry how.ReadFault told left out out' end h none = cc
   end_entry how.WriteFault told left out out' end h none = cc
 
-  -- what is stuck has its entry
-  stuck_entry : (told left out out' : Option (List ℕ))
-      → ProgramEnds program noted owner name life how.Stuck lines steps told left out out'
-      → HasNoEntry program noted owner name → ⊥
-  stuck_entry told left out out' h none = closes_entry h.0.c h.0.closes.closes none
-
-  -- what has its entry, and ran without a limit that is passed, and without a failure, ended so or is stuck
+  -- what has its entry, and ran without a limit that is passed, and without a failure, ended so
   entry_ends : (ran : Ran) (told left out out' : Option (List ℕ)) → is_decided (run_status ran) ≡ true
       → (run_status ran ≡ status.Limit → ⊥)
       → ProgramEnds program noted owner name life ran lines steps told left out out'
       → (HasNoEntry program noted owner name → ⊥)
-      → (is_run_end (run_status ran) ≡ true) ⊎ (ran ≡ how.Stuck)
+      → is_run_end (run_status ran) ≡ true
   entry_ends how.NoEntry told left out out' good no_limit h has = absurd (has h.0)
   entry_ends (how.Limit limit) told left out out' good no_limit h has = absurd (no_limit refl)
-  entry_ends (how.Exit true) told left out out' good no_limit h has = inl refl
-  entry_ends (how.Exit false) told left out out' good no_limit h has = inl refl
-  entry_ends (how.Abort words) told left out out' good no_limit h has = inl refl
-  entry_ends how.Steps told left out out' good no_limit h has = inl refl
-  entry_ends how.Stuck told left out out' good no_limit h has = inr refl
+  entry_ends (how.Exit true) told left out out' good no_limit h has = refl
+  entry_ends (how.Exit false) told left out out' good no_limit h has = refl
+  entry_ends (how.Abort words) told left out out' good no_limit h has = refl
+  entry_ends how.Steps told left out out' good no_limit h has = refl
   entry_ends how.ReadFault told left out out' good no_limit h has = absurd cc
   entry_ends how.WriteFault told left out out' good no_limit h has = absurd cc
 
 -- ---- by the status
 
--- a status that words and files decide, which is none of these others, is 2
-refused_else : (ends : Status) → is_decided ends ≡ true → (ends ≡ status.Limit → ⊥)
-    → (ends ≡ status.Missing → ⊥) → (ends ≡ status.Words → ⊥) → (is_run_end ends ≡ true → ⊥)
-    → ends ≡ status.Refused
-refused_else status.Success good limit missing words end = absurd (end refl)
-refused_else status.Failure good limit missing words end = absurd (end refl)
-refused_else status.Refused good limit missing words end = refl
-refused_else status.Abort good limit missing words end = absurd (end refl)
-refused_else status.Steps good limit missing words end = absurd (end refl)
-refused_else status.ReadFault good limit missing words end = absurd cc
-refused_else status.WriteFault good limit missing words end = absurd cc
-refused_else status.Memory good limit missing words end = absurd cc
-refused_else status.Limit good limit missing words end = absurd (limit refl)
-refused_else status.Missing good limit missing words end = absurd (missing refl)
-refused_else status.Words good limit missing words end = absurd (words refl)
+-- a status that words and files decide, which is none of these others, is that of a run
+end_else : (ends : Status) → is_decided ends ≡ true → (ends ≡ status.Limit → ⊥)
+    → (ends ≡ status.Missing → ⊥) → (ends ≡ status.Words → ⊥) → (ends ≡ status.Refused → ⊥)
+    → is_run_end ends ≡ true
+end_else status.Success good limit missing words refused = refl
+end_else status.Failure good limit missing words refused = refl
+end_else status.Refused good limit missing words refused = absurd (refused refl)
+end_else status.Abort good limit missing words refused = refl
+end_else status.Steps good limit missing words refused = refl
+end_else status.ReadFault good limit missing words refused = absurd cc
+end_else status.WriteFault good limit missing words refused = absurd cc
+end_else status.Memory good limit missing words refused = absurd cc
+end_else status.Limit good limit missing words refused = absurd (limit refl)
+end_else status.Missing good limit missing words refused = absurd (missing refl)
+end_else status.Words good limit missing words refused = absurd (words refl)
 
 -- the end of a run that has begun is success, or none that is paid
 run_end_success : (ended : Status) → is_run_end ended ≡ true → due.is_owed ended ≡ true
@@ -197,7 +193,7 @@ module _ (call : Call) (files : Files) (task : Task) (is : Tells call files)
       (subst (λ (t : Task). HasEntry t.entry (program_modules can.reads) can.accepted.noted) (sym one)
       can.entry)
 
-  -- a program can run that ran to an end of its own, or is stuck
+  -- a program can run that ran to an end of its own
   whole_can : ComesToRun call (IsRunWhole call.status call.streams) → IsRunEnd call → CanRun files task
   whole_can r end =
       let runs = r.run.done.runs in
@@ -206,22 +202,12 @@ module _ (call : Call) (files : Files) (task : Task) (is : Tells call files)
       call.streams.input.old call.streams.input.new call.streams.out.old call.streams.out.new
       (sym (ap is_run_end r.run.status) ∙ end) runs.done)
 
-  stuck_can : ReportsRun call how.Stuck → CanRun files task
-  stuck_can r =
-      ran_can r (λ noted. stuck_entry (slots.modules r.program) r.run.runs.noted _ _ r.task.life r.run.lines
-      r.task.steps
-      call.streams.input.old call.streams.input.new call.streams.out.old call.streams.out.new r.run.runs.done)
-
 -- ---- by the ways in which a call ends
 
 module _ (call : Call) where
   -- how the call ended
   abbrev pub Ending : Type 0
   Ending = HasEnded call
-
-  -- a run is stuck
-  abbrev pub IsStuck : Type 0
-  IsStuck = ReportsRun call how.Stuck
 
   -- no line is paid for it that it succeeded
   paid_run : {T : Type 0} (files : Files) (task : Task) → Tells call files → IsRun call.words task
@@ -245,24 +231,22 @@ module _ (call : Call) where
         ]
       ]
 
-  -- a program that can run, and ran, ended so or is stuck
+  -- a program that can run, and ran, ended so
   whole_enters : (files : Files) (task : Task) → Tells call files → IsRun call.words task
       → IsDecided call → (call.status ≡ status.Limit → ⊥) → CanRun files task
-      → ComesToRun call (IsRunWhole call.status call.streams) → IsRunEnd call ⊎ IsStuck
+      → ComesToRun call (IsRunWhole call.status call.streams) → IsRunEnd call
   whole_enters files task is job good no_limit can r =
       let runs = r.run.done.runs in
       let entry = can_ran call files task is job r can in
-      elim (entry_ends (slots.modules r.program) runs.noted _ _ r.task.life r.run.done.lines r.task.steps r.run.ran call.streams.input.old
-      call.streams.input.new call.streams.out.old call.streams.out.new
-      (sym (ap is_decided r.run.status) ∙ good) (λ limit. no_limit (r.run.status ∙ limit)) runs.done entry) [
-        | inl end ↦ inl (ap is_run_end r.run.status ∙ end)
-        | inr stuck ↦ inr (of.whole_to call r how.Stuck stuck)
-      ]
+      ap is_run_end r.run.status
+      ∙ entry_ends (slots.modules r.program) runs.noted _ _ r.task.life r.run.done.lines r.task.steps r.run.ran
+      call.streams.input.old call.streams.input.new call.streams.out.old call.streams.out.new
+      (sym (ap is_decided r.run.status) ∙ good) (λ limit. no_limit (r.run.status ∙ limit)) runs.done entry
 
-  -- A run ends so, or is stuck, exactly where its program can run, unless a limit is passed.
+  -- A run ends so exactly where its program can run, unless a limit is passed.
   pub ended_entered : Ending → (files : Files) (task : Task) → Tells call files
       → IsRun call.words task → IsDecided call → (call.status ≡ status.Limit → ⊥)
-      → CanRun files task ↔ (IsRunEnd call ⊎ IsStuck)
+      → CanRun files task ↔ IsRunEnd call
   ended_entered h files task is job good no_limit = (
     λ can. elim (of.decided call h good) [
       | inl p ↦
@@ -274,44 +258,49 @@ module _ (call : Call) where
         | inr t ↦ of.text_runs call task job t
       ]
     ],
-    λ entered. elim entered [
-      | inl end ↦ ended_runs_only h files task is job end
-      | inr stuck ↦ stuck_can call files task is job stuck
-    ],
+    λ end. ended_runs_only h files task is job end,
   )
 
-  -- It is refused, and isn't stuck, exactly where its program can't, unless a file is missing besides.
-  pub ended_not_entered : Ending → (files : Files) (task : Task) → Tells call files
+  -- It isn't refused exactly where its program can run, unless a file is missing besides.
+  pub ended_accepts : Ending → (files : Files) (task : Task) → Tells call files
       → IsRun call.words task → IsDecided call → (call.status ≡ status.Limit → ⊥)
-      → (call.status ≡ status.Missing → ⊥)
-      → (CanRun files task → ⊥) ↔ ((call.status ≡ status.Refused) × (IsStuck → ⊥))
-  ended_not_entered h files task is job good no_limit no_missing = (
-    λ cannot. (
-      refused_else call.status good no_limit no_missing (λ none. of.ended_words call h none task job.0)
-          (λ end. cannot (ended_runs_only h files task is job end)),
-      λ stuck. cannot ((ended_entered h files task is job good no_limit).1 (inr stuck)),
-    ),
-    λ refused can. elim ((ended_entered h files task is job good no_limit).0 can) [
-      | inl end ↦ let e = sym end ∙ ap is_run_end refused.0 in cc
-      | inr stuck ↦ refused.1 stuck
-    ],
+      → (call.status ≡ status.Missing → ⊥) → CanRun files task ↔ (call.status ≡ status.Refused → ⊥)
+  ended_accepts h files task is job good no_limit no_missing = (
+    λ can refused.
+        let end : is_run_end call.status ≡ true = (ended_entered h files task is job good no_limit).0 can in
+        let e : false ≡ true = sym (ap is_run_end refused) ∙ end in
+        cc,
+    λ allowed.
+        ended_runs_only h files task is job
+        (end_else call.status good no_limit no_missing (λ none. of.ended_words call h none task job.0) allowed),
   )
 
   -- ---- what is promised of the call
 
-  run_promises : Ending → (files : Files) → Tells call files → (task : Task) → IsRun call.words task
-      → RunPromises call files task
-  run_promises h files is task job = record {
-    runs = λ good run to. of.ended_runs call h files task is job good run to;
-    shown = λ good run to. of.ended_shown call h files task is job good run to;
-    lives = λ good run to asked. of.ended_lives call h files task is job good run to asked;
-    runs_only = λ end. ended_runs_only h files task is job end;
+  -- the program of a run of files is safe to run
+  to_run_safe : AcceptedProgramsAreSound → (files : Files) (task : Task) (run : Run) → IsToRun files task run
+      → IsSafe run.program
+  to_run_safe law files task run to =
+      subst (λ (it : Run). IsSafe it.program) (sym to.is_run)
+      (accepted_safe law files task.files to.all to.reads to.accepted)
+
+  run_promises : AcceptedProgramsAreSound → LoweredProgramsKeepStep → Ending → (files : Files) → Tells call files
+      → (task : Task) → IsRun call.words task → RunPromises call files task
+  run_promises law steps h files is task job = record {
+    accepts = λ good no_limit no_missing. ended_accepts h files task is job good no_limit no_missing;
     entered = λ good no_limit. ended_entered h files task is job good no_limit;
-    not_entered = λ good no_limit no_missing. ended_not_entered h files task is job good no_limit no_missing;
+    runs_only = λ end. ended_runs_only h files task is job end;
+    shown = λ good run to. of.ended_shown call h files task is job good run to (to_run_safe law files task run to);
+    bounded = λ run to. safe_in_step steps run (to_run_safe law files task run to);
+    sound = λ run to. (to_run_safe law files task run to).sound;
+    lives = λ good run to asked.
+        of.ended_lives call h files task is job good run to (to_run_safe law files task run to) asked;
+    runs = λ good run to. of.ended_runs call h files task is job good run to;
   }
 
-  file_promises : Ending → (files : Files) → Tells call files → FilePromises call files
-  file_promises h files is = record {
+  file_promises : AcceptedProgramsAreSound → LoweredProgramsKeepStep → Ending → (files : Files)
+      → Tells call files → FilePromises call files
+  file_promises law steps h files is = record {
     only = λ due owes good. of.ended_only call h files due is owes good;
     unread = λ unread good. of.ended_unread call h files is unread good;
     accepted = λ good. of.ended_accepted call h files is good;
@@ -322,18 +311,18 @@ module _ (call : Call) where
     explained_only = λ task job succeeds. of.ended_explained_only call h files task is job succeeds;
     formatted = λ name text job good laid. ended_formatted call h files name text is job good laid;
     formatted_only = λ name job succeeds. ended_formatted_only call h files name is job succeeds;
-    run = run_promises h files is;
+    run = run_promises law steps h files is;
     compile = λ task job. compile_promises call h files is task job;
   }
 
   -- A call that ended in one of these ways is as it is promised, where its shelf rests when it is to, and
-  -- tells the same files.
-  pub promised : Ending → (IsNoJob call.words → ShelfNeverFailed call × ShelfMissedNone call)
+  -- tells the same files, by what holds of accepted programs and of the code of programs.
+  pub promised : AcceptedProgramsAreSound → LoweredProgramsKeepStep → Ending → (IsNoJob call.words → ShelfNeverFailed call × ShelfMissedNone call)
       → (AsksForTooMany call.words → ShelfNeverFailed call × ShelfMissedNone call)
       → call.shelf.new_files ≡ call.shelf.files → Promises call
-  promised h idle crowded files = record {
+  promised law steps h idle crowded files = record {
     due = of.ended_done call h;
-    told = file_promises h;
+    told = file_promises law steps h;
     words = of.ended_words call h;
     no_job = of.ended_no_job call h;
     refused = of.ended_refused call h;

@@ -1,6 +1,7 @@
 pub mod SinkLemmas
 pub mod ArisesLemmas
 pub mod DueLemmas
+pub mod SoundLemmas
 pub mod RunLemmas
 pub mod EndLemmas
 pub mod FormatLemmas

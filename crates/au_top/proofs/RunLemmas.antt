@@ -11,10 +11,10 @@ use Rattle.au_modules.specs.Programs.{ModuleParts}
 use Rattle.au_typing.specs.Trees.{NotedParts}
 use Rattle.au_outcomes.specs.NotingPrograms.Faults.{IsDerived}
 use Rattle.au_outcomes.specs.Lines.{abort_line, steps_line}
-use Rattle.au_rules.specs.Good.{AllDeclarationsAreGood}
 use Rattle.au_runs.specs.Calls.{Rose}
-use Rattle.au_running.specs.Ran.{CompletesAsMeant, ProgramEnds, ProgramIsCut, is_read_fault}
-use Rattle.au_running.specs.Ran.{is_write_fault}
+use Rattle.au_running.specs.Came.{CodeCompletes}
+use Rattle.au_running.specs.Closed.{code_of}
+use Rattle.au_running.specs.Ran.{IsLowered, ProgramEnds, ProgramIsCut, is_read_fault, is_write_fault}
 use Rattle.au_running.specs.declared.ran.Ran.{Ran}
 use Rattle.au_running.specs.declared.ran.Ran.TheVariants as how
 use Rattle.au_top.specs.Calls.{is_decided}
@@ -23,20 +23,21 @@ use Rattle.au_top.specs.Runs.{EndsAsRun, FromEntry, IsTold, Run, Runs, entry_of,
 use Rattle.au_top.specs.Runs.{run_status}
 use Rattle.au_top.specs.Shown.{HasLives, IsAsMeant, ShowsLives, ShowsMeaning}
 use Rattle.au_top.specs.Streams.{Gains, GainsFront, HasFailed, HasStayed, Streams}
-use Rattle.au_running.proofs.ShownLemmas.{as_meant, lives_meant, ran_broken}
+use Rattle.au_top.specs.Sound.{IsSafe}
+use Rattle.au_running.proofs.ShownLemmas.{as_meant, lives_meant, lives_none, ran_broken}
+use Rattle.au_top.proofs.SoundLemmas.{safe_from}
 use Rattle.au_top.specs.declared.saying.AnswerFault.{AnswerFault}
 use Rattle.au_top.specs.declared.saying.AnswerFault.TheVariants as answer
 
 -- ---- by the status
 
-pub refused_ran : (ran : Ran) → run_status ran ≡ status.Refused → (ran ≡ how.NoEntry) ⊎ (ran ≡ how.Stuck)
-refused_ran how.NoEntry h = inl refl
+pub refused_ran : (ran : Ran) → run_status ran ≡ status.Refused → ran ≡ how.NoEntry
+refused_ran how.NoEntry h = refl
 refused_ran (how.Limit limit) h = absurd cc
 refused_ran (how.Exit true) h = absurd cc
 refused_ran (how.Exit false) h = absurd cc
 refused_ran (how.Abort words) h = absurd cc
 refused_ran how.Steps h = absurd cc
-refused_ran how.Stuck h = inr refl
 refused_ran how.ReadFault h = absurd cc
 refused_ran how.WriteFault h = absurd cc
 
@@ -47,7 +48,6 @@ limit_ran (how.Exit true) h = absurd cc
 limit_ran (how.Exit false) h = absurd cc
 limit_ran (how.Abort words) h = absurd cc
 limit_ran how.Steps h = absurd cc
-limit_ran how.Stuck h = absurd cc
 limit_ran how.ReadFault h = absurd cc
 limit_ran how.WriteFault h = absurd cc
 
@@ -59,7 +59,6 @@ exit_ran true (how.Exit true) h = refl
 exit_ran true (how.Exit false) h = absurd cc
 exit_ran true (how.Abort words) h = absurd cc
 exit_ran true how.Steps h = absurd cc
-exit_ran true how.Stuck h = absurd cc
 exit_ran true how.ReadFault h = absurd cc
 exit_ran true how.WriteFault h = absurd cc
 exit_ran false how.NoEntry h = absurd cc
@@ -68,7 +67,6 @@ exit_ran false (how.Exit true) h = absurd cc
 exit_ran false (how.Exit false) h = refl
 exit_ran false (how.Abort words) h = absurd cc
 exit_ran false how.Steps h = absurd cc
-exit_ran false how.Stuck h = absurd cc
 exit_ran false how.ReadFault h = absurd cc
 exit_ran false how.WriteFault h = absurd cc
 
@@ -79,7 +77,6 @@ abort_ran (how.Exit true) h = absurd cc
 abort_ran (how.Exit false) h = absurd cc
 abort_ran (how.Abort words) h = (words, refl)
 abort_ran how.Steps h = absurd cc
-abort_ran how.Stuck h = absurd cc
 abort_ran how.ReadFault h = absurd cc
 abort_ran how.WriteFault h = absurd cc
 
@@ -90,7 +87,6 @@ steps_ran (how.Exit true) h = absurd cc
 steps_ran (how.Exit false) h = absurd cc
 steps_ran (how.Abort words) h = absurd cc
 steps_ran how.Steps h = refl
-steps_ran how.Stuck h = absurd cc
 steps_ran how.ReadFault h = absurd cc
 steps_ran how.WriteFault h = absurd cc
 
@@ -101,7 +97,6 @@ read_ran (how.Exit true) h = absurd cc
 read_ran (how.Exit false) h = absurd cc
 read_ran (how.Abort words) h = absurd cc
 read_ran how.Steps h = absurd cc
-read_ran how.Stuck h = absurd cc
 read_ran how.ReadFault h = refl
 read_ran how.WriteFault h = absurd cc
 
@@ -124,7 +119,6 @@ ran_ends (how.Exit true) = refl
 ran_ends (how.Exit false) = refl
 ran_ends (how.Abort words) = refl
 ran_ends how.Steps = refl
-ran_ends how.Stuck = refl
 ran_ends how.ReadFault = refl
 ran_ends how.WriteFault = refl
 
@@ -136,7 +130,6 @@ unwritten_ran (how.Exit true) none h = cc
 unwritten_ran (how.Exit false) none h = cc
 unwritten_ran (how.Abort words) none h = cc
 unwritten_ran how.Steps none h = cc
-unwritten_ran how.Stuck none h = cc
 unwritten_ran how.ReadFault none h = cc
 unwritten_ran how.WriteFault none h = cc
 
@@ -147,7 +140,6 @@ written_is (how.Limit limit) h = absurd cc
 written_is (how.Exit success) h = absurd cc
 written_is (how.Abort words) h = absurd cc
 written_is how.Steps h = absurd cc
-written_is how.Stuck h = absurd cc
 written_is how.ReadFault h = absurd cc
 written_is how.WriteFault h = refl
 
@@ -158,7 +150,6 @@ decided_read (how.Limit limit) h = refl
 decided_read (how.Exit success) h = refl
 decided_read (how.Abort words) h = refl
 decided_read how.Steps h = refl
-decided_read how.Stuck h = refl
 decided_read how.ReadFault h = absurd cc
 decided_read how.WriteFault h = refl
 
@@ -311,68 +302,66 @@ module _ (run : Run) where
 
     -- ---- what is shown
 
-    module _ (declared : AllDeclarationsAreGood run.program) where
-      -- what ran whole shows what is meant
-      shown_by : (ran : Ran) (line lines : Bytes) (h : Runs run s ran lines) → Gains s.err (lines ++ line)
-          → CompletesAsMeant run.program h.noted (entry_of run).«module» (entry_of run).function run.life ran
-          lines run.steps s.input.old s.input.new s.out.old s.out.new
-          → ShowsMeaning run s ran line
-      shown_by ran line lines h told done = record {
-        lines = lines;
-        runs = record { noted = h.noted; derived = h.derived; done = done };
-        told = told;
-      }
+    -- for a run of a program that is safe to run
+    module _ (safe : IsSafe run.program) where
+      -- what is told of what ran whole, on which this line is due
+      module _ (ran : Ran) (line : Bytes) (h : IsTold run s ran) (told : Gains s.err (h.lines ++ line))
+          (it : IsLowered run.program h.runs.noted (entry_of run).«module» (entry_of run).function)
+          (whole : CodeCompletes (code_of it.c) run.life ran h.lines run.steps s.input.old s.input.new s.out.old
+          s.out.new) where
+        shown_by : ShowsMeaning run s ran line
+        shown_by = record {
+          meant = record {
+            noted = h.runs.noted;
+            derived = h.runs.derived;
+            done = as_meant run.program h.runs.noted _ _ h.runs.derived (safe_from run.program safe _ _) it ran
+                h.lines run.steps s.input.old s.input.new s.out.old s.out.new run.life whole;
+          };
+          lines = h.lines;
+          unasked = lives_none run.program h.runs.noted _ _ h.runs.derived (safe_from run.program safe _ _) it ran
+              h.lines run.steps s.input.old s.input.new s.out.old s.out.new run.life whole;
+          told = told;
+        }
+
+        lives_by : run.life ≡ true → ShowsLives run s ran line
+        lives_by asked = record {
+          lines = h.lines;
+          lives = record {
+            noted = h.runs.noted;
+            derived = h.runs.derived;
+            done = lives_meant run.program h.runs.noted _ _ h.runs.derived (safe_from run.program safe _ _) it ran
+                h.lines run.steps s.input.old s.input.new s.out.old s.out.new run.life whole asked;
+          };
+          told = told;
+        }
 
       ran_shown : (ran : Ran) → IsTold run s ran → IsAsMeant run s (run_status ran)
       ran_shown how.NoEntry h = tt
       ran_shown (how.Limit limit) h = tt
-      ran_shown (how.Exit true) h =
-          let done = h.runs.done in
-          shown_by (how.Exit true) [] h.lines h.runs h.told
-          (as_meant run.program h.runs.noted _ _ h.runs.derived declared run.life (how.Exit true) h.lines run.steps
-          s.input.old s.input.new s.out.old s.out.new done.0 done.1)
-      ran_shown (how.Exit false) h =
-          let done = h.runs.done in
-          shown_by (how.Exit false) [] h.lines h.runs h.told
-          (as_meant run.program h.runs.noted _ _ h.runs.derived declared run.life (how.Exit false) h.lines run.steps
-          s.input.old s.input.new s.out.old s.out.new done.0 done.1)
+      ran_shown (how.Exit true) h = shown_by (how.Exit true) [] h h.told h.runs.done.0 h.runs.done.1
+      ran_shown (how.Exit false) h = shown_by (how.Exit false) [] h h.told h.runs.done.0 h.runs.done.1
       ran_shown (how.Abort words) h =
-          let done = h.runs.done in (
-            words,
-            shown_by (how.Abort words) (abort_line words) h.lines h.runs h.told
-                (as_meant run.program h.runs.noted _ _ h.runs.derived declared run.life (how.Abort words)
-                h.lines run.steps s.input.old s.input.new s.out.old s.out.new done.0 done.1),
-          )
-      ran_shown how.Steps h =
-          let done = h.runs.done in
-          shown_by how.Steps (steps_line run.steps) h.lines h.runs h.told
-          (as_meant run.program h.runs.noted _ _ h.runs.derived declared run.life how.Steps h.lines run.steps
-          s.input.old s.input.new s.out.old s.out.new done.0 done.1)
-      ran_shown how.Stuck h = tt
+          (words, shown_by (how.Abort words) (abort_line words) h h.told h.runs.done.0 h.runs.done.1)
+      ran_shown how.Steps h = shown_by how.Steps (steps_line run.steps) h h.told h.runs.done.0 h.runs.done.1
       ran_shown how.ReadFault h = tt
       ran_shown how.WriteFault h = tt
+
+      ran_lives : (ran : Ran) → IsTold run s ran → run.life ≡ true → HasLives run s (run_status ran)
+      ran_lives how.NoEntry h asked = tt
+      ran_lives (how.Limit limit) h asked = tt
+      ran_lives (how.Exit true) h asked = lives_by (how.Exit true) [] h h.told h.runs.done.0 h.runs.done.1 asked
+      ran_lives (how.Exit false) h asked = lives_by (how.Exit false) [] h h.told h.runs.done.0 h.runs.done.1 asked
+      ran_lives (how.Abort words) h asked =
+          (words, lives_by (how.Abort words) (abort_line words) h h.told h.runs.done.0 h.runs.done.1 asked)
+      ran_lives how.Steps h asked =
+          lives_by how.Steps (steps_line run.steps) h h.told h.runs.done.0 h.runs.done.1 asked
+      ran_lives how.ReadFault h asked = tt
+      ran_lives how.WriteFault h asked = tt
 
       -- What is seen of a run is what its program means.
       pub run_shown : (ends : Status) → EndsAsRun run s ends → IsAsMeant run s ends
       run_shown ends h = subst (IsAsMeant run s) (sym h.status) (ran_shown h.ran h.done)
 
-    -- and so do the lines of its events, where they are asked for
-    lives_by : (ran : Ran) (line : Bytes) → ShowsMeaning run s ran line → run.life ≡ true
-        → ShowsLives run s ran line
-    lives_by ran line h asked = record {
-      lines = h.lines;
-      lives = record {
-        noted = h.runs.noted;
-        derived = h.runs.derived;
-        done = lives_meant run.program h.runs.noted _ _ run.life ran h.lines run.steps s.input.old s.input.new
-            s.out.old s.out.new h.runs.done asked;
-      };
-      told = h.told;
-    }
-
-    pub run_lives : (ends : Status) → IsAsMeant run s ends → run.life ≡ true → HasLives run s ends
-    run_lives status.Success h asked = lives_by (how.Exit true) [] h asked
-    run_lives status.Failure h asked = lives_by (how.Exit false) [] h asked
-    run_lives status.Abort h asked = (h.0, lives_by (how.Abort h.0) (abort_line h.0) h.1 asked)
-    run_lives status.Steps h asked = lives_by how.Steps (steps_line run.steps) h asked
-    run_lives other h asked = tt
+      -- and so are its events, where they are asked for
+      pub run_lives : (ends : Status) → EndsAsRun run s ends → run.life ≡ true → HasLives run s ends
+      run_lives ends h asked = subst (HasLives run s) (sym h.status) (ran_lives h.ran h.done asked)

@@ -76,7 +76,7 @@ is_decided status.Limit = true
 is_decided status.Missing = true
 is_decided status.Words = true
 
--- a status with which a run ends that has begun, and neither met a failure nor got stuck
+-- a status with which a run ends that has begun, and met no failure
 abbrev pub is_run_end : Status → Bool
 is_run_end status.Success = true
 is_run_end status.Failure = true
@@ -276,11 +276,11 @@ abbrev pub GoesBehind : Call → Type 0
 GoesBehind call = HasOutcome call (HasComeBehind call) ⊎ (HasRunItsProgram call ⊎ HasCompiled call)
 
 -- What the words ask for is refused and the line of it stands on `err`, or their program is to run or to be
--- compiled, and has no such entry, or it ran and is stuck.
+-- compiled, and has no such entry.
 abbrev pub IsRefused : Call → Type 0
 IsRefused call =
     HasOutcome call (IsRefusedSo call.streams)
-    ⊎ ((ReportsRun call how.NoEntry ⊎ ReportsRun call how.Stuck) ⊎ ReportsText call (Err uncoded.NoEntry))
+    ⊎ (ReportsRun call how.NoEntry ⊎ ReportsText call (Err uncoded.NoEntry))
 
 -- The line of a limit stands on `err` that words or files pass, or that their program passes which is to run
 -- or to be compiled.

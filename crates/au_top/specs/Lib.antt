@@ -7,5 +7,6 @@ pub mod Entered
 pub mod Calls
 pub mod Shown
 pub mod Ends
+pub mod Sound
 pub mod Formatted
 pub mod Promises

@@ -19,36 +19,44 @@ use Rattle.au_top.specs.Dues.{IsUnread, Owes, accepted_due, explained_due, laid_
 use Rattle.au_top.specs.Formatted.{HasLayoutOf, IsFormat}
 use Rattle.au_top.specs.Entered.{CanCompile, CanRun, IsToRun}
 use Rattle.au_top.specs.Runs.{EndsAsRun, Run}
-use Rattle.au_top.specs.Shown.{HasLives, IsAsMeant}
+use Rattle.au_top.specs.Shown.{HasLives, IsAsMeant, IsInStep}
+use Rattle.au_top.specs.Sound.{AllRunsAreSound}
 use Rattle.au_top.specs.Streams.{AreQuiet, HasStayed, NeverFailed}
 use Rattle.au_top.specs.Texts.{text_due}
 
 -- What is promised of a call whose words are this job, a `run`, over these files.
 pub record RunPromises (call : Call) (files : Files) (task : Task) : Type 0 where
-  -- The code of its files' program is run where they are accepted: the call ends as the run of that code
-  -- does, its output is what that writes, the input is left as that leaves it, the lines of its events stand
-  -- on `err`, where they are asked for, and its line tells how the run ended.
-  pub runs : IsDecided call → (run : Run) → IsToRun files task run → EndsAsRun run call.streams call.status
-  -- Then what is seen of the run is what the program means on its input, where that isn't stuck: it ends with
-  -- 0 or 1, with 3 or with 4 by how its meaning ends within the steps, and has written what that writes.
+  -- Unless a limit is passed or a file is missing, it isn't refused exactly where its program can run:
+  -- where the files are accepted, and the program has its entry.
+  pub accepts :
+      IsDecided call → call.status ≢ status.Limit → call.status ≢ status.Missing
+      → CanRun files task ↔ (call.status ≢ status.Refused)
+  -- Unless a limit is passed, it ends as a run does, with 0, 1, 3 or 4, exactly where its program can run;
+  -- and it ends so only there.
+  pub entered : IsDecided call → call.status ≢ status.Limit → CanRun files task ↔ IsRunEnd call
+  pub runs_only : IsRunEnd call → CanRun files task
+  -- What is seen of the run is what its program means on its input: it ends with 0 or 1 and has written
+  -- what that writes, where that has returned within as many ticks as the run may make steps; with 3, where
+  -- it has aborted; with 4, where it hasn't ended in an eighth as many ticks, and has written what lies
+  -- between.
   pub shown : IsDecided call → (run : Run) → IsToRun files task run → IsAsMeant run call.streams call.status
-  -- With `--life` the lines of the events of that run stand before its line, and where what the program means
-  -- isn't stuck, they are the events of that where the run has ended, and lie between those of that, as its
-  -- output does, where the steps were spent.
+  -- Where that has ended after t ticks, a run of its code ends after s steps, and t <= s <= 8 t.
+  pub bounded : (run : Run) → IsToRun files task run → IsInStep run
+  -- Each run of its program is sound, on whatever input and for however many ticks: it isn't stuck; each
+  -- linear value is consumed at most once, and exactly once where the run returns; each use of a reference
+  -- stands inside its borrow, and each borrow is closed where the run returns; and what is born of an opaque
+  -- type is born in the module that declares it.
+  pub sound : (run : Run) → IsToRun files task run → AllRunsAreSound run.program
+  -- With `--life` the lines of the events of the run stand before its line: they are those of what its
+  -- program means where the run has ended, and lie between those of that, as its output does, where the
+  -- steps were spent.
   pub lives :
       IsDecided call → (run : Run) → IsToRun files task run → run.life ≡ true
       → HasLives run call.streams call.status
-  -- It ends so only where its program can run: where the files are accepted, and the program has its entry.
-  pub runs_only : IsRunEnd call → CanRun files task
-  -- Unless a limit is passed, it ends so, or its run is stuck, exactly where its program can run.
-  pub entered :
-      IsDecided call → call.status ≢ status.Limit
-      → CanRun files task ↔ (IsRunEnd call ⊎ ReportsRun call how.Stuck)
-  -- Unless a limit is passed or a file is missing, it ends with 2, and not since its run is stuck, exactly
-  -- where its program can't run.
-  pub not_entered :
-      IsDecided call → call.status ≢ status.Limit → call.status ≢ status.Missing
-      → (CanRun files task → ⊥) ↔ ((call.status ≡ status.Refused) × (ReportsRun call how.Stuck → ⊥))
+  -- It is the code that its program is lowered to that is run: the call ends as the run of that code does,
+  -- its output is what that writes, the input is left as that leaves it, the lines of its events stand on
+  -- `err`, where they are asked for, and its line tells how the run ended.
+  pub runs : IsDecided call → (run : Run) → IsToRun files task run → EndsAsRun run call.streams call.status
 
 -- What is promised of a call whose words are this job, a `compile`, over these files.
 pub record CompilePromises (call : Call) (files : Files) (task : Task) : Type 0 where
@@ -116,7 +124,7 @@ pub record Promises (call : Call) : Type 0 where
   pub words : call.status ≡ status.Words → IsNoJob call.words
   pub no_job : IsNoJob call.words → IsDecided call → call.status ≡ status.Words
   -- 2 comes with the line of a refusal that the words or the files have, or of a program without such an
-  -- entry that is to run or to be compiled, or of one whose run is stuck.
+  -- entry that is to run or to be compiled.
   pub refused : call.status ≡ status.Refused → IsRefused call
   -- 8 comes with the line of a limit that is passed, and 9 with that of the first file that is missing.
   pub limit : call.status ≡ status.Limit → PassesLimit call

@@ -64,7 +64,6 @@ run_status (how.Limit limit) = status.Limit
 run_status (how.Exit success) = if success then status.Success else status.Failure
 run_status (how.Abort words) = status.Abort
 run_status how.Steps = status.Steps
-run_status how.Stuck = status.Refused
 run_status how.ReadFault = status.ReadFault
 run_status how.WriteFault = status.WriteFault
 
@@ -76,7 +75,6 @@ run_line entry steps (how.Limit limit) = limit_line limit
 run_line entry steps (how.Exit success) = []
 run_line entry steps (how.Abort words) = abort_line words
 run_line entry steps how.Steps = steps_line steps
-run_line entry steps how.Stuck = refusal_line [] refusal.Stuck
 run_line entry steps how.ReadFault = read_fault_line
 run_line entry steps how.WriteFault = []
 

@@ -1,24 +1,40 @@
 -- What is seen of a run, by what its program means.
-use Rattle.std.specs.Prelude.{true, false, [], ◌++◌}
+use Rattle.std.specs.Prelude.{◌≡◌, true, false, List, [], ◌++◌}
 use Rattle.au_base.specs.declared.statuses.Status.{Status}
 use Rattle.au_base.specs.declared.statuses.Status.TheVariants as status
 use Rattle.au_syntax.specs.Plain.{Bytes}
+use Rattle.au_typing.specs.Trees.{NotedParts}
 use Rattle.au_outcomes.specs.Lines.{abort_line, steps_line}
-use Rattle.au_running.specs.Ran.{CompletesAsMeant, LivesAsMeant}
+use Rattle.au_outcomes.specs.NotingPrograms.Faults.{IsDerived}
+use Rattle.au_running.specs.Answers.{ClosesWithin}
+use Rattle.au_running.specs.Closed.{code_of}
+use Rattle.au_running.specs.Follows.{KeepsStep}
+use Rattle.au_running.specs.Meant.{means}
+use Rattle.au_running.specs.Programs.{ClosedProgram}
+use Rattle.au_running.specs.Ran.{LivesAsMeant, RunsAsMeant}
 use Rattle.au_running.specs.declared.ran.Ran.{Ran}
 use Rattle.au_running.specs.declared.ran.Ran.TheVariants as how
-use Rattle.au_top.specs.Runs.{FromEntry, Run}
+use Rattle.au_top.specs.Runs.{FromEntry, Run, entry_of}
 use Rattle.au_top.specs.Streams.{Gains, Streams}
+
+-- Where what the program of a run means from its entry has ended, on whatever input, after t ticks, a run
+-- of the code that the program is lowered to ends after s steps, and t <= s <= 8 t.
+abbrev pub IsInStep : Run → Type 0
+IsInStep run =
+    (noted : List NotedParts) (c : ClosedProgram) → IsDerived run.program noted
+    → (closes : ClosesWithin run.program noted (entry_of run).«module» (entry_of run).function c)
+    → KeepsStep (code_of c) (means run.program noted closes.closes.entry)
 
 -- for a run, and the streams of the call
 module _ (run : Run) (s : Streams) where
-  -- The program ran whole as code, this is answered of the run, and it shows what the program means. The lines
-  -- of its events, where they are asked for, and this line stand on `err`.
+  -- This is answered of the run, and shows what its program means from its entry, on the input of the call.
+  -- The lines of its events, which are none where they aren't asked for, and this line stand on `err`.
   pub record ShowsMeaning (ran : Ran) (line : Bytes) : Type 0 where
+    pub meant :
+        FromEntry run (λ program noted owner name. RunsAsMeant program noted owner name ran run.steps
+        s.input.old s.input.new s.out.old s.out.new)
     pub lines : Bytes
-    pub runs :
-        FromEntry run (λ program noted owner name. CompletesAsMeant program noted owner name run.life ran
-        lines run.steps s.input.old s.input.new s.out.old s.out.new)
+    pub unasked : run.life ≡ false → lines ≡ []
     pub told : Gains s.err (lines ++ line)
 
   -- What a status of a call says of the run: it returned success or failure, aborted for the cause that its

@@ -8,6 +8,7 @@ ghost use Rattle.au_top.specs.Calls.{Fails, Pays};
 ghost use Rattle.au_outcomes.specs.Outcomes.{is_outcome};
 ghost use Rattle.au_top.specs.Dues.{due_of};
 ghost use Rattle.au_top.specs.Ends.{IfCompiles, IfRuns, RunAnswers, TextAnswers};
+ghost use Rattle.au_top.specs.Sound.{RunsSafely};
 ghost use Rattle.au_top.specs.Streams.{AreQuiet, HasStayed, source_of, streams};
 
 use crate::compiling::compile;
@@ -65,7 +66,8 @@ pub fn answer<I: Source, O: Sink, E: Sink>(
     out: &mut O,
     err: &mut E,
 ) -> Result<Status, AnswerFault>
-    requires { IsTrue (is_outcome outcome.now) }
+    requires outcome { IsTrue (is_outcome outcome.now) }
+    requires safe { RunsSafely outcome.now }
     ensures pays { IfSome (due_of (map string_bytes asked.now.files.items) outcome.now)
         (λ due. IfOk result (λ status. Pays due status
         (streams I.Source O.Sink E.Sink input.old input.new out.old out.new err.old err.new))) }

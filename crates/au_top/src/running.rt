@@ -8,6 +8,7 @@ ghost use Rattle.au_outcomes.specs.Refusals.{is_refusal};
 ghost use Rattle.au_running.specs.Ran.{is_write_fault};
 ghost use Rattle.au_top.specs.Ends.{RunAnswers};
 ghost use Rattle.au_top.specs.Runs as runs;
+ghost use Rattle.au_top.specs.Sound.{IsSafe};
 ghost use Rattle.au_top.specs.Streams.{streams};
 
 use crate::answering::Asked;
@@ -18,7 +19,7 @@ use au_outcomes::{NotedProgram, Refusal, abort_line, limit_line, refusal_text, s
 use au_running::{Ran, Report, run_program};
 use std::alloc::Global;
 
-/// Runs a program from its entry, and writes on `err` the lines of its events, if these are asked for, and
+/// Runs a program that is safe to run from its entry, and writes on `err` the lines of its events, if these are asked for, and
 /// the line that is due behind the run, if one is.
 ///
 /// # Errors
@@ -33,6 +34,7 @@ pub fn run<I: Source, O: Sink, E: Sink>(
     out: &mut O,
     err: &mut E,
 ) -> Result<Status, AnswerFault>
+    requires { IsSafe (slots.modules program.now) }
     ensures { RunAnswers result
         (streams I.Source O.Sink E.Sink input.old input.new out.old out.new err.old err.new)
         (record {
@@ -60,7 +62,6 @@ fn is_cut(ran: &Ran) -> bool
         Ran::Exit(_) => false,
         Ran::Abort(_) => false,
         Ran::Steps => false,
-        Ran::Stuck => false,
         Ran::ReadFault => false,
         Ran::WriteFault => true,
     }
@@ -111,7 +112,6 @@ fn line_of(alloc: Global, entry: Entry, steps: u64, ran: &Ran) -> Result<Vec<u8>
         Ran::Exit(_) => Ok(Vec::new(alloc)),
         Ran::Abort(words) => abort_line(alloc, words.as_bytes()),
         Ran::Steps => steps_line(alloc, steps),
-        Ran::Stuck => refused_line(alloc, Refusal::Stuck),
         Ran::ReadFault => line_copy(alloc, READ_FAULT_LINE),
         Ran::WriteFault => Ok(Vec::new(alloc)),
     }
@@ -148,7 +148,6 @@ fn status_of(ran: &Ran) -> Status
         Ran::Exit(false) => Status::Failure,
         Ran::Abort(_) => Status::Abort,
         Ran::Steps => Status::Steps,
-        Ran::Stuck => Status::Refused,
         Ran::ReadFault => Status::ReadFault,
         Ran::WriteFault => Status::WriteFault,
     }

@@ -15,7 +15,9 @@ use crate::answering::{Asked, answer};
 use crate::asking::asked_of;
 use crate::saying::{AnswerFault, READ_FAULT_LINE};
 use au_base::{Shelf, Sink, Source, Status, WriteFault, put_all};
+use au_judged_programs::sound::accepted_programs_are_sound;
 use au_outcomes::{CheckFault, Outcome, check};
+use au_running::laws::lowered_programs_keep_step;
 use au_words::{WordsFault, read_words};
 use std::alloc::Global;
 
@@ -38,6 +40,8 @@ pub fn austral<S: Shelf, I: Source, O: Sink, E: Sink>(
       status = result;
     }) }
 {
+    accepted_programs_are_sound();
+    lowered_programs_keep_step();
     ended(alloc, words, shelf, input, out, err)
 }
 
@@ -62,6 +66,7 @@ fn ended<S: Shelf, I: Source, O: Sink, E: Sink>(
         → (S.faults shelf.new ≡ S.faults shelf.old) × (S.misses shelf.new ≡ S.misses shelf.old) }
     ensures files { S.files shelf.new ≡ S.files shelf.old }
 {
+    accepted_programs_are_sound();
     match outcome_of(alloc, words, shelf) {
         Ok((asked, outcome)) => { status_of(answer(alloc, &asked, &outcome, input, out, err)) }
         Err(fault) => fault_status(fault, err),

@@ -1,5 +1,5 @@
 -- The machine is loaded with this code, and keeps its events where they are asked for.
-use Rattle.std.proofs.Common.{◌≡◌, ℕ, Bool, false, List, IfOk, ap, subst, sym, ◌∙◌}
+use Rattle.std.proofs.Common.{◌≡◌, ℕ, Bool, false, List, Some, IfOk, subst}
 use Rattle.std.proofs.lemmas.Result.{IfOk-weaker, on_err_weaker}
 use Rattle.au_base.proofs.OutsideLemmas.{on_err}
 use Rattle.au_effects.specs.Worlds.{Deed}
@@ -10,7 +10,7 @@ use Rattle.au_running.specs.Came.{is_told, ran_of}
 use Rattle.au_running.specs.Lines.{told_lines}
 use Rattle.au_running.specs.Ran.{is_read_fault, is_write_fault}
 use Rattle.au_running.specs.declared.ran.Report.{Report}
-use Rattle.au_running.proofs.AnswerLemmas.{read_told, report_came, said_cut, told_quiet, told_still}
+use Rattle.au_running.proofs.AnswerLemmas.{read_told, report_came, said_cut, said_unstuck, told_quiet, told_still}
 use Rattle.au_running.proofs.AnswerLemmas.{write_told}
 use Rattle.au_running.proofs.FrontLemmas.{unbegun_cut}
 use Rattle.au_running.proofs.MutedLemmas.{cut_muted}
@@ -39,6 +39,18 @@ pub returns-in_err-end-clause-quiet : goal.returns-in_err-end-clause-quiet
 returns-in_err-end-clause-quiet g c =
     on_err c.from_residual-in_err-end.result (λ none. c.in_err-end.ensures.quiet.0)
 
+pub report_of-requires : goal.report_of-requires
+report_of-requires g c =
+    let told = g.I.Source.left c.args.input.now in
+    let left = g.I.Source.left c.run.new.input in
+    let out = g.O.Sink.written c.args.out.now in
+    let out' = g.O.Sink.written c.run.new.out in
+    let events = c.run.new.self.events in
+    let ended = c.in_ok-end.end in
+    said_unstuck c.args.code.now c.args.life ended c.args.steps told left out out' events c.args.requires
+    (subst (λ (m : Loaded). Says ended (low_run m.keeps m.code) c.args.steps told left out out' events)
+    c.in_ok-machine.ensures c.in_ok-end.ensures.says)
+
 pub returns-clause-came : goal.returns-clause-came
 returns-clause-came g c =
     let code = c.args.code.now in
@@ -61,10 +73,10 @@ returns-clause-read g c =
     let ended = c.in_ok-end.end in
     let reads = g.I.Source.faults c.args.input.now in
     let reads' = g.I.Source.faults c.run.new.input in
-    IfOk-weaker c.report_of.result (λ (report : Report). report.ran ≡ ran_of code ended)
+    IfOk-weaker c.report_of.result (λ (report : Report). ran_of code ended ≡ Some report.ran)
     (λ (report : Report). Rose (is_read_fault report.ran) reads reads')
-    (λ report is. subst (λ (failed : Bool). Rose failed reads reads')
-    (read_told code ended ∙ ap is_read_fault (sym is)) c.in_ok-end.ensures.read)
+    (λ report is. subst (λ (failed : Bool). Rose failed reads reads') (read_told code ended report.ran is)
+    c.in_ok-end.ensures.read)
     c.report_of.ensures.ran
 
 pub returns-clause-written : goal.returns-clause-written
@@ -73,10 +85,10 @@ returns-clause-written g c =
     let ended = c.in_ok-end.end in
     let writes = g.O.Sink.faults c.args.out.now in
     let writes' = g.O.Sink.faults c.run.new.out in
-    IfOk-weaker c.report_of.result (λ (report : Report). report.ran ≡ ran_of code ended)
+    IfOk-weaker c.report_of.result (λ (report : Report). ran_of code ended ≡ Some report.ran)
     (λ (report : Report). Rose (is_write_fault report.ran) writes writes')
-    (λ report is. subst (λ (failed : Bool). Rose failed writes writes')
-    (write_told code ended ∙ ap is_write_fault (sym is)) c.in_ok-end.ensures.written)
+    (λ report is. subst (λ (failed : Bool). Rose failed writes writes') (write_told code ended report.ran is)
+    c.in_ok-end.ensures.written)
     c.report_of.ensures.ran
 
 pub returns-clause-cut : goal.returns-clause-cut

@@ -11,7 +11,7 @@ use Rattle.au_running.specs.Coded.{HasCode}
 use Rattle.au_running.specs.declared.coding.Uncoded.{Uncoded}
 use Rattle.au_running.specs.Ran.{ProgramEnds, ProgramIsCut, IsIdle}
 use Rattle.au_running.specs.declared.ran.Report.{Report}
-use Rattle.au_running.proofs.ShownLemmas.{came_so, cut_so}
+use Rattle.au_running.proofs.ShownLemmas.{came_so, cut_so, never_stuck}
 use Rattle.au_running.proofs.running.run_program.Goals as goal
 
 -- it didn't begin
@@ -32,6 +32,12 @@ returns-in-Err-Limit-clause-ran g c =
     let has = subst (λ (e : Uncoded). (noted : List NotedParts) × IsDerived program noted
     × HasCode program noted owner name (Err e)) c.in-Err-Limit.field-0-is c.in-Err-Limit.ensures.is in
     (has.0, has.1, (has.2, (refl, refl), search rules))
+
+pub run_code-requires : goal.run_code-requires
+run_code-requires g c =
+    let has = c.in-Ok.ensures.is in
+    never_stuck (slots.modules c.args.program.now) has.0 c.args.entry.now.«module» c.args.entry.now.function
+    c.stuck_runs_are_meant.ensures has.1 c.args.requires c.in-Ok.code has.2
 
 pub returns-in-Ok-clause-ran : goal.returns-in-Ok-clause-ran
 returns-in-Ok-clause-ran g c =

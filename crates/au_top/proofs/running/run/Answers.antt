@@ -5,6 +5,7 @@ use Rattle.au_modules.specs.Slots as slots
 use Rattle.au_top.specs.Runs.{Run}
 use Rattle.au_top.specs.Streams.{Streams, streams}
 use Rattle.au_top.proofs.RunLemmas.{has_ran, idle_stopped, run_cut, run_said, run_stopped}
+use Rattle.au_top.proofs.SoundLemmas.{safe_from}
 use Rattle.au_top.proofs.running.run.Goals as goal
 
 pub returns-in_err-entry : goal.returns-in_err-entry
@@ -67,3 +68,7 @@ returns g c =
     c.in_ok-entry.ensures c.in_ok-report.ensures.ran)
     c.in_ok-report.ensures.read c.in_ok-report.ensures.written c.say_ran.ensures.ok c.say_ran.ensures.written
     c.say_ran.ensures.quiet c.say_ran.ensures.front c.say_ran.ensures.risen c.say_ran.ensures.memory
+
+-- It is safe to run from its entry.
+pub run_program-requires : goal.run_program-requires
+run_program-requires g c = safe_from (slots.modules c.args.program.now) c.args.requires _ _

@@ -5,13 +5,20 @@ use Rattle.au_top.specs.Calls.{shelf_of}
 use Rattle.au_top.specs.Streams.{streams}
 use Rattle.au_top.proofs.AnsweredLemmas.{answered, unanswered}
 use Rattle.au_top.proofs.ArisesLemmas.{arises_outcome}
+use Rattle.au_top.proofs.SoundLemmas.{arises_safe}
 use Rattle.au_top.proofs.top.ended.Goals as goal
 
-pub answer-requires : goal.answer-requires
-answer-requires g c =
+pub answer-requires-outcome : goal.answer-requires-outcome
+answer-requires-outcome g c =
     let found = c.in-Ok.ensures.arises in
     arises_outcome (map string_bytes c.args.words.now) found.0 (map string_bytes c.in-Ok.asked.files.items)
     c.in-Ok.outcome found.2
+
+pub answer-requires-safe : goal.answer-requires-safe
+answer-requires-safe g c =
+    let found = c.in-Ok.ensures.arises in
+    arises_safe c.accepted_programs_are_sound.ensures (map string_bytes c.args.words.now) found.0
+    (map string_bytes c.in-Ok.asked.files.items) c.in-Ok.outcome found.2
 
 pub returns-in-Ok-clause-ends : goal.returns-in-Ok-clause-ends
 returns-in-Ok-clause-ends g c =
