@@ -52,6 +52,8 @@ use Rattle.au_judged_bodies.specs.Keys.{ConstraintsHold, ways}
 use Rattle.au_judged_programs.specs.CheckedChecked.{IsChecked}
 use Rattle.au_judged_programs.specs.Programs.{HoldsHere, MethodsAreSeen, is_class}
 use Rattle.au_judged_programs.specs.ShippedMethods.{ShippedMethodsAreSeen}
+use Rattle.au_judged_programs.specs.SeenMethods.{MethodsOfProgramsAreSeen}
+use Rattle.au_judged_programs.proofs.ShippedMethodSeenLemmas.{shipped_method_seen}
 use Rattle.au_judged_programs.proofs.HoldLemmas.{held_here, holds_run, known_holds}
 use Rattle.au_judged_programs.proofs.MethodSeenLemmas.{call_known, called_is, method_seen, of_call, put_is, put_type}
 use Rattle.au_judged_programs.proofs.MethodSeenLemmas.{row_given, row_is}
@@ -175,3 +177,16 @@ methods_seen program noted shipped checked place generics given regions s z acti
     here means found has well notes of puts =
     by_says program noted shipped checked place generics given regions s z active runs holds note name target d called put here
     means found has well notes of puts d.says refl is has
+
+-- ---- of all
+
+-- those of shipped instances are seen
+shipped_methods : (program : List ModuleParts) (noted : List NotedParts) → ShippedMethodsAreSeen program noted
+shipped_methods program noted checked place params regions given s z active runs note name target d called put declared param
+    row call is_a_class leading found_row shipped_so means found declares well notes of puts =
+    shipped_method_seen program noted checked place params regions given s z active runs note name target d called put
+    declared param row call leading found_row shipped_so means found declares well notes of puts
+
+pub methods_of_programs : (program : List ModuleParts) (noted : List NotedParts) → MethodsOfProgramsAreSeen program noted
+methods_of_programs program noted checked place generics given regions s z active runs holds =
+    methods_seen program noted (shipped_methods program noted) checked place generics given regions s z active runs holds
