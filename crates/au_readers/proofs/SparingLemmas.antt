@@ -28,7 +28,7 @@ fewer_left id to (suc n) = let split = split_place id to n in let rest = fewer_l
 part_less : (id : Id) (to : Place) (i : ℕ) → in_place id (part_at i to) ≤ in_place id to
 part_less id to i = let split = split_place id to i in let rest = fewer_left id to i in omega arith
 
-path_less : (id : Id) (path : List ℕ) (to : Place) → in_place id (place_along to path) ≤ in_place id to
+pub path_less : (id : Id) (path : List ℕ) (to : Place) → in_place id (place_along to path) ≤ in_place id to
 path_less id [] to =
     let same : in_place id (place_along to []) ≡ in_place id to =
     ap (λ (p : List ℕ). in_place id (record { base = to.base; path = p })) (append-nil to.path) in
@@ -106,10 +106,10 @@ module _ (types : Types) (clock : ℕ) (scope act : ℕ → Bool) (hold : Holds)
     (under : Made) (s : Table) (m : Memory (List ℕ)) (core : Core types clock scope act hold type under s m)
     (r : ℕ) (n : Loan) (steps : List Step) (one : Point)
     (sees : Sees types clock scope act hold type under s m core r steps n one) where
-  abbrev from : ℕ
+  abbrev pub from : ℕ
   from = sees.leads.from
 
-  lent : IsLent core.forest hold core.root (λ id. in_forest id core.top core.forest + in_list id core.trees) r n.token
+  pub lent : IsLent core.forest hold core.root (λ id. in_forest id core.top core.forest + in_list id core.trees) r n.token
       (reading from sees.leads.tree)
   lent =
       subst (λ (via : Via). IsLent core.forest hold core.root
@@ -117,7 +117,7 @@ module _ (types : Types) (clock : ℕ) (scope act : ℕ → Bool) (hold : Holds)
       (core.lent r n sees.leads.row sees.is_open)
 
   -- the root that is seen has the place of the loan
-  at_start : lent.0 ≡ n.to
+  pub at_start : lent.0 ≡ n.to
   at_start =
       let seen = core.rooted from (whole lent.0 sees.leads.tree) lent.1 in
       let own = core.rooted r watching lent.2 in
@@ -185,17 +185,17 @@ module _ (types : Types) (clock : ℕ) (scope act : ℕ → Bool) (hold : Holds)
   watched_row frame x t (shut y) is stands = absurd is
   watched_row frame x t (watched tokens) is stands = stands.0
 
-  whose : Names hold core.root from (IsWatched n.token)
+  pub whose : Names hold core.root from (IsWatched n.token)
   whose = lent.3
 
-  row : IsNameRow s from whose.frame whose.name (type whose.frame whose.name)
+  pub row : IsNameRow s from whose.frame whose.name (type whose.frame whose.name)
   row =
       subst (λ (k : ℕ). IsNameRow s k whose.frame whose.name (type whose.frame whose.name)) whose.is
       (watched_row whose.frame whose.name (type whose.frame whose.name) (hold whose.frame whose.name) whose.holds
       (core.names whose.frame whose.name))
 
   -- no loan that writes is that root
-  not_writer : (g : ℕ) (l : Loan) → s g ≡ Some l → IsWriter l.via → g ≡ from → ⊥
+  pub not_writer : (g : ℕ) (l : Loan) → s g ≡ Some l → IsWriter l.via → g ≡ from → ⊥
   not_writer g l has writes same =
       let its : s g ≡ Some row.row = subst (λ (k : ℕ). s k ≡ Some row.row) (sym same) row.has in
       let rows : l ≡ row.row = cc in

@@ -10,7 +10,7 @@ use Rattle.au_memory.specs.Forests as forest
 use Rattle.au_memory.specs.Forests.{Hold, Made, empty}
 use Rattle.au_memory.specs.Loans.{Types}
 use Rattle.au_lending.specs.Laws.{IsReadable}
-use Rattle.au_sound_expressions.specs.Orders.{Act, is_active}
+use Rattle.au_sound_expressions.specs.Orders.{Act, Lying, is_active}
 use Rattle.au_sound_expressions.specs.Frames.{Frame, IsDroppable, IsLoose}
 use Rattle.au_meaning.specs.Acts.{emptied, stored, with_value}
 use Rattle.au_meaning.specs.Expressions.{whole}
@@ -61,7 +61,7 @@ more_active (a ∷ own) below z is = by (a.token == z) (more_active own below z 
     by false rest = rest
 
 module _ (types : Types) (owner : ClosedType → Option (List ℕ)) (laws : StepsAreSafe types owner) (loose : ℕ → Bool)
-    (result : Meaning) (below : List Act) (base : List ℕ) (fs : List Frame) (sizes : List ℕ) (size : ℕ)
+    (result : Meaning) (below : List Act) (base : Lying) (fs : List Frame) (sizes : List ℕ) (size : ℕ)
     (running : IsRunning sizes fs size) where
   abbrev pub Goes : List Act → ℕ → Standing → Names → Made → World → Type 0
   Goes own number h names under w = Going types owner loose result below base fs sizes size own number h names under w
