@@ -72,7 +72,7 @@ module _ (B : Type 0) (types : Types) (owner : B → Option (List ℕ)) (acts : 
             ((reference done.row.borrow (content_place done.born), meaning.writes of (token done.row.token)) ∷ under)
             (with_row inv.core.top row s) m done.after
             (λ i. let c = done.counts (birth i) in omega arith)
-            (parts_one s s inv.core.top done.loan done.row (content_place done.born) of done.has done.writes inv.core.known
+            (parts_one s s inv.core.top done.loan done.row (content_place done.born) of done.has done.writer inv.core.known
             inv.core.known (parts_same s));
       } in (
         done.row.borrow,
@@ -105,7 +105,7 @@ module _ (B : Type 0) (types : Types) (owner : B → Option (List ℕ)) (acts : 
         rows = rows;
         inv = keeps_on B types owner acts hold type ((r, meaning.writes t (token z)) ∷ under) s m (with_use b w) inv
             inv.clock hold type (with_parts done.row.borrow done.row.to done.row.token 0 done.of under) rows m done.after
-            done.births (parts_more s done.loan done.row done.has done.writes done.of inv.core.top 0 s inv.core.known
+            done.births (parts_more s done.loan done.row done.has done.writer done.of inv.core.top 0 s inv.core.known
             inv.core.known (parts_same s));
       } in (
         done.row.borrow,

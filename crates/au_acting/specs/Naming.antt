@@ -1,5 +1,5 @@
 -- What is done to names.
-use Rattle.std.specs.Prelude.{◌≡◌, ℕ, true, List, [], ◌∷◌, Option, Some, None}
+use Rattle.std.specs.Prelude.{◌≡◌, ℕ, true, false, List, [], ◌∷◌, Option, Some, None}
 use Rattle.au_effects.specs.References.{name_along, place_along}
 use Rattle.au_effects.specs.Values.{Place, name_of, reference}
 use Rattle.au_places.specs.Memories.{Memory, held_at, with_base, written}

@@ -456,7 +456,7 @@ module _ (types : Types) (forms : AreDeclared types) (cases : CasesAreAlone type
             loan = loan;
             row = row;
             has = form.has;
-            writes = form.writes;
+            writer = form.writes;
             typed = of_type;
             of_token = of_token;
             leads = leads;
@@ -556,7 +556,7 @@ module _ (types : Types) (forms : AreDeclared types) (cases : CasesAreAlone type
             loan = loan;
             row = row;
             has = form.has;
-            writes = form.writes;
+            writer = form.writes;
             typed = of_type;
             of_token = of_token;
             leads = leads;

@@ -297,7 +297,7 @@ module _ (types : Types) (clock : ℕ) (scope act : ℕ → Bool) (hold : Holds)
     pub row : Loan
     pub born : ℕ
     pub has : s loan ≡ Some row
-    pub writes : IsWriter row.via
+    pub writer : IsWriter row.via
     pub typed : t ≡ row.type
     pub of_token : z ≡ row.token
     pub leads : r ≡ reference row.borrow row.to

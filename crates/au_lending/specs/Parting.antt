@@ -45,7 +45,7 @@ module _ (types : Types) (clock : ℕ) (scope act : ℕ → Bool) (hold : Holds)
     pub loan : ℕ
     pub row : Loan
     pub has : s loan ≡ Some row
-    pub writes : IsWriter row.via
+    pub writer : IsWriter row.via
     pub typed : t ≡ row.type
     pub of_token : z ≡ row.token
     pub leads : r ≡ reference row.borrow row.to

@@ -1,5 +1,5 @@
 -- Borrows that the meaning opens.
-use Rattle.std.proofs.Common.{◌≡◌, ℕ, List, [], ◌∷◌, length, Option, Some, refl, sym, ap, subst, ◌∙◌}
+use Rattle.std.proofs.Common.{◌≡◌, ℕ, true, false, List, [], ◌∷◌, length, Option, Some, refl, sym, ap, subst, ◌∙◌}
 use Rattle.au_effects.specs.Parts.{along}
 use Rattle.au_effects.specs.Places.{base_at}
 use Rattle.au_effects.specs.References.{name_along, reference_at, reference_in}

@@ -110,7 +110,7 @@ closed_both w n m less most =
 -- borrows that are left are no more than there were
 fewer : (w : World) (n : ℕ) (base : Lying) → lying_in (closed_to n w) ≡ base → length base ≤ length w.borrows
 fewer w n base is =
-    let own = ap (λ (xs : List ℕ). length xs) is in
+    let own = ap (λ (xs : Lying). length xs) is in
     let all = length_map open_of (oldest n w.borrows) in
     let less = length_drop (length w.borrows - n) w.borrows in
     omega arith
@@ -131,7 +131,7 @@ ends_to types owner (b ∷ rest) a older fs sizes under w state =
     let mid = closed_to (length b.base) w in
     let more = ends_to types owner rest a older (freed_frames b.token fs) sizes under mid once in
     let kept : length (lying_in mid) ≡ length mid.borrows = length_map open_of mid.borrows in
-    let base = ap (λ (xs : List ℕ). length xs) lies in
+    let base = ap (λ (xs : Lying). length xs) lies in
     let one = fewer mid (length a.base) a.base more.1 in
     let two = fewer w (length b.base) b.base lies in
     let same : closed_to (length a.base) mid ≡ closed_to (length a.base) w =

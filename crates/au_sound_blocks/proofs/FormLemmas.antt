@@ -197,7 +197,7 @@ module _ (types : Types) (owner : ClosedType → Option (List ℕ)) (laws : Step
         clear = λ k from. each_after number (length binds) k forest.ready h from ∙ going.clear k (omega arith);
         fine = subst (λ (c : ℕ). Fine (put_each number c forest.ready h) (with_types number bound.bound names)) count_types
             (fine_each number bound.bound h names bound.fine going.fine);
-        bottom = subst (λ (xs : List ℕ). IsBottom own xs base) (sym (lies_filled number (values_of found.0) n))
+        bottom = subst (λ (xs : Lying). IsBottom own xs base) (sym (lies_filled number (values_of found.0) n))
             going.bottom;
         state = subst (λ (f : Frame). IsIn types owner (own ++ below) (f ∷ fs) sizes under
             (with_values number (values_of found.0) n))

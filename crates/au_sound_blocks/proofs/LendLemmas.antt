@@ -140,7 +140,7 @@ module _ (types : Types) (owner : ClosedType → Option (List ℕ)) (laws : Step
               waits = λ k. waits_freed a (own ++ below) (fell.hold k) (fell.going.waits k);
               clear = λ k from. ap (freed a.token) (fell.going.clear k from);
               fine = λ k may. fine_on k (fell.going.fine k may);
-              bottom = subst (λ (xs : List ℕ). IsBottom own xs base)
+              bottom = subst (λ (xs : Lying). IsBottom own xs base)
                   (sym ((laws.actions.counted (a ∷ (own ++ below)) (frame fell.hold fell.names ∷ fs) sizes under n).1 a
                   (own ++ below) refl fell.going.state)) fell.going.bottom;
               state = subst (λ (gs : List Frame). IsIn types owner (own ++ below)

@@ -104,7 +104,7 @@ module _ (types : Types) (owner : ClosedType → Option (List ℕ)) (laws : Step
     waits = going.waits;
     clear = going.clear;
     fine = going.fine;
-    bottom = subst (λ (xs : List ℕ). IsBottom own xs base) (sym lies) going.bottom;
+    bottom = subst (λ (xs : Lying). IsBottom own xs base) (sym lies) going.bottom;
     state = state;
   }
 
@@ -196,7 +196,7 @@ module _ (types : Types) (owner : ClosedType → Option (List ℕ)) (laws : Step
           waits = each_way (Waits (is_active (own ++ below))) number count empty fell.hold tt fell.going.waits;
           clear = none;
           fine = λ k may. by k may (cases_lt k number);
-          bottom = subst (λ (xs : List ℕ). IsBottom own xs base) (sym (lies_emptied number count w)) fell.going.bottom;
+          bottom = subst (λ (xs : Lying). IsBottom own xs base) (sym (lies_emptied number count w)) fell.going.bottom;
           state = laws.renamed (own ++ below) fs sizes under (emptied number count w)
               (put_each number count empty fell.hold) fell.names before (λ k. same k (cases_lt k number))
               (subst (λ (f : Frame). IsIn types owner (own ++ below) (f ∷ fs) sizes under (emptied number count w))
@@ -278,7 +278,7 @@ module _ (types : Types) (owner : ClosedType → Option (List ℕ)) (laws : Step
             waits = λ k. waits_spent (is_active (own ++ below)) (uses see k scope e).consumed (h k) (going.waits k);
             clear = λ k from. spent_empty (uses see k scope e).consumed (h k) (going.clear k from);
             fine = λ k may. fine_on k (going.fine k may);
-            bottom = subst (λ (xs : List ℕ). IsBottom own xs base) (sym gave.same) going.bottom;
+            bottom = subst (λ (xs : Lying). IsBottom own xs base) (sym gave.same) going.bottom;
             state = gave.state;
           };
           state = gave.state;

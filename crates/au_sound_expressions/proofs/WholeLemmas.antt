@@ -97,7 +97,7 @@ module _ (types : Types) (owner : ClosedType → Option (List ℕ)) (laws : Acti
           let z = a.token in
           let made = (v, t) ∷ under in
           let count : length a.base ≡ length w.borrows =
-          ap (λ (xs : List ℕ). length xs) based
+          ap (λ (xs : Lying). length xs) based
           ∙ sym (laws.counted older (frame h names ∷ fs) sizes under w).0 in
           let ended = laws.ended (a ∷ older) (frame after.hold names ∷ fs) sizes ((v, t) ∷ under) n a older refl
           after.state in
