@@ -91,7 +91,7 @@ fit_there scope s (one ∷ rest) name universe none e =
 
 -- ---- its classes
 
-lack_there : (scope : Scope) (s : Bindings) (known : Known) (one : Bytes × DeclAt) →
+pub lack_there : (scope : Scope) (s : Bindings) (known : Known) (one : Bytes × DeclAt) →
     first_lacking scope s known ≡ None → Contains known one → lacking_at scope one.1 (value_of one.0 s) ≡ None
 lack_there scope s [] one none there = absurd (nothing_there one there)
 lack_there scope s (first ∷ rest) one none there =

@@ -1,32 +1,32 @@
-mod CallLemmas
-mod ScopeLemmas
-mod RowLemmas
-mod SoundLemmas
-mod TableLemmas
-mod TypedCallLemmas
+pub mod CallLemmas
+pub mod ScopeLemmas
+pub mod RowLemmas
+pub mod SoundLemmas
+pub mod TableLemmas
+pub mod TypedCallLemmas
 pub mod BodyLemmas
-mod MeantLemmas
-mod FitLemmas
+pub mod MeantLemmas
+pub mod FitLemmas
 pub mod GenericsLemmas
-mod PutLemmas
-mod SameLemmas
+pub mod PutLemmas
+pub mod SameLemmas
 pub mod DefinitionLemmas
-mod FunctionLemmas
-mod TypedLemmas
+pub mod FunctionLemmas
+pub mod TypedLemmas
 pub mod GatheredLemmas
 pub mod FactLemmas
-mod TextLemmas
-mod ShippedMethodLemmas
-mod MethodLemmas
+pub mod TextLemmas
+pub mod ShippedMethodLemmas
+pub mod MethodLemmas
 pub mod HeadLemmas
-mod ResolvedLemmas
-mod StandLemmas
-mod NotedStandLemmas
-mod PutStandLemmas
-mod MeantStandLemmas
-mod OutsideStandLemmas
+pub mod ResolvedLemmas
+pub mod StandLemmas
+pub mod NotedStandLemmas
+pub mod PutStandLemmas
+pub mod MeantStandLemmas
+pub mod OutsideStandLemmas
 pub mod FieldLemmas
 pub mod OnceLemmas
 pub mod OwnTypeLemmas
 pub mod AcceptedLemmas
-mod LeadLemmas
+pub mod LeadLemmas

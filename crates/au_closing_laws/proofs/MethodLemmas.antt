@@ -1,6 +1,6 @@
 -- Each row that gives a class at a closed type has each method of the class there.
-use Rattle.std.proofs.Common.{◌≡◌, ◌⊎◌, inl, inr, ℕ, zero, suc, ◌+◌, Bool, true, false, cond, List, [], ◌∷◌}
-use Rattle.std.proofs.Common.{◌++◌, length, map, find, Option, None, Some, refl, sym, ap, ◌∙◌, subst}
+use Rattle.std.proofs.Common.{◌≡◌, ◌⊎◌, inl, inr, ℕ, Bool, true, false, cond, List, [], ◌∷◌}
+use Rattle.std.proofs.Common.{◌++◌, map, find, Option, None, Some, refl, sym, ap, ◌∙◌, subst}
 use Rattle.std.specs.Prelude.{Contains, slice_get}
 use Rattle.std.specs.List.{position, position_or_len}
 use Rattle.std.specs.Option.{option_and_then, option_map}
@@ -9,14 +9,17 @@ use Rattle.std.proofs.lemmas.List.Folds.{find_at}
 use Rattle.std.proofs.lemmas.Option.{none-some, same_Some}
 use Rattle.std.proofs.lemmas.Slice.Eq.{bytes_eq-Decides}
 use Rattle.au_base.specs.declared.places.Pos.{Pos}
-use Rattle.au_base.proofs.ListLemmas.{nothing_there, Contains-cases}
+use Rattle.au_base.proofs.ListLemmas.{nothing_there, Contains-cases, Contains-first, Contains-rest}
 use Rattle.au_syntax.specs.declared.modules.Part.TheVariants.{Interface, Body}
 use Rattle.au_syntax.specs.Modules.{Constrained, Header, InUniverse, constant, opaque_type, record_type}
 use Rattle.au_syntax.specs.Modules.{union_type, function, class, instance, constant_body, function_body}
 use Rattle.au_syntax.specs.Modules.{instance_body}
 use Rattle.au_syntax.specs.Names.{Placed}
 use Rattle.au_syntax.specs.Plain.{Bytes, PlainDeclaration, PlainMethod}
+use Rattle.au_syntax.specs.Types.{WrittenType}
+use Rattle.au_types.specs.declared.parameters.Parameter.{Parameter}
 use Rattle.au_types.specs.declared.types.DeclAt.{DeclAt}
+use Rattle.au_types.specs.Types.{Meaning}
 use Rattle.au_type_texts.specs.Types.{ClosedType}
 use Rattle.au_modules.specs.Programs.{Entry, ModuleParts}
 use Rattle.au_names.specs.declared.targets.Target.{Target}
@@ -25,7 +28,10 @@ use Rattle.au_names.specs.HeadsOf.{heads_of}
 use Rattle.au_names.specs.Owned.{declarations_in}
 use Rattle.au_names.specs.Standing.{Standing, standing_at}
 use Rattle.au_judged_types.specs.declared.reading.Meant.TheVariants.{Are}
-use Rattle.au_judged_types.specs.Meanings.{generics_meant, parameter}
+use Rattle.au_judged_types.specs.Bounds.{parameters}
+use Rattle.au_judged_types.specs.Meanings.{generics_meant, parameter, written_params}
+use Rattle.au_judged_types.proofs.MeaningLemmas.{params_written}
+use Rattle.au_shipped.specs.declared.prims.ShippedCall.{ShippedCall}
 use Rattle.au_shipped.specs.Calls.{prim_of}
 use Rattle.au_promises.specs.Agreeing.{Sight, scope_of, sight_of}
 use Rattle.au_promises.specs.Fulfilled.{AllFulfil, Each, OfGenerics, SameGeneric}
@@ -35,26 +41,27 @@ use Rattle.au_promises.proofs.FulfilledLemmas.{kept_passes}
 use Rattle.au_instances.specs.ClosedInstances.{ClosedInstance, by_row}
 use Rattle.au_instances.specs.Rows.{Row}
 use Rattle.au_classes.specs.Classes.{ClassText, class_at, class_in, class_standing, visible_at}
-use Rattle.au_classes.specs.Methods.{AreMethods}
+use Rattle.au_classes.specs.Methods.{AreMethods, SameSignature}
+use Rattle.au_classes.specs.Signatures.{given, wanted}
 use Rattle.au_classes.specs.Texts.{InstanceText, instances_of, methods_in}
 use Rattle.au_classes.specs.Good.{InstancesAreGood, IsGood}
-use Rattle.au_classes.specs.Rows.{row_of, rows_of}
+use Rattle.au_classes.specs.Rows.{rows_of}
 use Rattle.au_rules.specs.Good.{AllDeclarationsAreGood}
 use Rattle.au_typing.specs.Written.{types_at}
 use Rattle.au_typing.specs.Trees.{NotedDeclaration, NotedMethod, NotedParts, erase_declaration, erase_method}
-use Rattle.au_typing.specs.Trees.{erase_program}
 use Rattle.au_outcomes.specs.Faults.{IsDerived}
 use Rattle.au_closing.specs.Bodies.{BodyOf, body_in, body_of, body_standing, defining_in, defining_index}
 use Rattle.au_closing.specs.Bodies.{is_method, method_body, noted_at}
 use Rattle.au_closing.specs.Leading.{kind_of, module_name}
 use Rattle.au_closing_laws.specs.Gathered.{IsGathered}
 use Rattle.au_closing_laws.specs.Premises.{MethodsAreThere}
-use Rattle.au_closing_laws.specs.Targets.{MethodIsThere, bounds_in, bounds_of, method_has_body, method_is_shipped}
+use Rattle.au_closing_laws.specs.Targets.{MethodIsThere, bounds_of, method_has_body, method_is_shipped}
 use Rattle.au_closing_laws.proofs.DefinitionLemmas.{listed_at, noted_there}
 use Rattle.au_closing_laws.proofs.FactLemmas.{name_there}
 use Rattle.au_closing_laws.proofs.FunctionLemmas.{bounds_here, bounds_promised}
 use Rattle.au_closing_laws.proofs.GenericsLemmas.{misfit_none}
 use Rattle.au_closing_laws.proofs.MeantLemmas.{placed}
+use Rattle.au_closing_laws.proofs.SameLemmas.{same_params}
 use Rattle.au_closing_laws.proofs.ShippedMethodLemmas.{shipped_methods, stands_defined, stands_promised}
 use Rattle.au_closing_laws.proofs.TableLemmas.{read_of}
 use Rattle.au_closing_laws.proofs.TextLemmas.{IsDefined, IsPromised, Says, row_read, text_stands}
@@ -75,20 +82,30 @@ split {A} (y ∷ xs) x c = by (Contains-cases y xs x c) (split xs x)
 
 -- ---- methods with notes
 
--- a method of a name is found among those with notes, where one is written
+-- a method of a name is found among those with notes, where one is written; it is one of the written ones
 noted_method : (name : Bytes) (ms : List NotedMethod) (one : PlainMethod) →
     Contains (map erase_method ms) one → name ≡ one.header.name.name → (m : NotedMethod)
     × (find (is_method name) ms ≡ Some m)
+    × Contains (map erase_method ms) (erase_method m) × (name ≡ m.header.name.name)
 noted_method name [] one c named = absurd (nothing_there one c)
 noted_method name (m ∷ ms) one c named = by (bytes_eq name m.header.name.name) refl
     (Contains-cases (erase_method m) (map erase_method ms) one c)
     (λ behind. noted_method name ms one behind named)
   where
     by : (b : Bool) → bytes_eq name m.header.name.name ≡ b → (erase_method m ≡ one) ⊎ Contains (map erase_method ms) one
-        → (Contains (map erase_method ms) one → (k : NotedMethod) × (find (is_method name) ms ≡ Some k)) →
+        → (Contains (map erase_method ms) one → (k : NotedMethod) × (find (is_method name) ms ≡ Some k)
+        × Contains (map erase_method ms) (erase_method k) × (name ≡ k.header.name.name)) →
         (k : NotedMethod) × (cond b (Some m) (find (is_method name) ms) ≡ Some k)
-    by true e c later = (m, refl)
-    by false e (inr behind) later = later behind
+        × Contains (erase_method m ∷ map erase_method ms) (erase_method k) × (name ≡ k.header.name.name)
+    by true e c later = (
+      m,
+      refl,
+      Contains-first (erase_method m) (map erase_method ms),
+      (bytes_eq-Decides name m.header.name.name).0 e,
+    )
+    by false e (inr behind) later =
+        let its = later behind in
+        (its.0, its.1, Contains-rest (erase_method m) (map erase_method ms) (erase_method its.0) its.2, its.3)
     by false e (inl here) later =
         let same : bytes_eq name m.header.name.name ≡ true =
         (bytes_eq-Decides name m.header.name.name).1
@@ -104,16 +121,26 @@ abbrev generics_of : PlainDeclaration → List (Constrained Bytes)
 generics_of (instance_body at gs n t ms) = gs
 generics_of other = []
 
--- an instance with its notes has a body under the name of each of its methods
+-- an instance with its notes has a body under the name of each of its methods, of which the header is that of a
+-- method of the name
 method_noted : (place : ℕ) (name : Bytes) (d : NotedDeclaration) (ms : List PlainMethod) →
     methods_written (erase_declaration d) ≡ Some ms → (one : PlainMethod) → Contains ms one →
     name ≡ one.header.name.name
     → (body : BodyOf) × (body_in place name d ≡ Some body) × (body.place ≡ place)
     × (body.generics ≡ generics_of (erase_declaration d))
+    × (k : PlainMethod) × Contains ms k × (name ≡ k.header.name.name) × (body.header ≡ k.header)
 method_noted place name (instance_body at gs n t noted) ms e one c named =
-    let its = noted_method name noted one
-    (subst (λ xs. Contains xs one) (sym (same_Some (map erase_method noted) ms e)) c) named in
-    (method_body place gs its.0, ap (option_map (method_body place gs)) its.1, refl, refl)
+    let same : map erase_method noted ≡ ms = same_Some (map erase_method noted) ms e in
+    let its = noted_method name noted one (subst (λ xs. Contains xs one) (sym same) c) named in (
+      method_body place gs its.0,
+      ap (option_map (method_body place gs)) its.1,
+      refl,
+      refl,
+      erase_method its.0,
+      subst (λ xs. Contains xs (erase_method its.0)) same its.2,
+      its.3,
+      refl,
+    )
 method_noted place name (constant at n t) ms e one c named = absurd (none-some ms e)
 method_noted place name (opaque_type at n ps u) ms e one c named = absurd (none-some ms e)
 method_noted place name (record_type at n ps u fields) ms e one c named = absurd (none-some ms e)
@@ -151,6 +178,49 @@ agreed sight generics (instance at gs n t) agrees = absurd agrees
 agreed sight generics (constant_body at n t v) agrees = absurd agrees
 agreed sight generics (function_body at gs h b stop) agrees = absurd agrees
 
+-- ---- methods of a class
+
+-- no two methods have one name
+abbrev AreOnce : List PlainMethod → Type 0
+AreOnce methods =
+    (before after : List PlainMethod) (m other : PlainMethod) → methods ≡ before ++ m ∷ after
+    → Contains before other → ¬ (m.header.name.name ≡ other.header.name.name)
+
+-- so two of one name are one
+same_method : (methods : List PlainMethod) → AreOnce methods → (m k : PlainMethod) → Contains methods m
+    → Contains methods k → m.header.name.name ≡ k.header.name.name → m ≡ k
+same_method [] once m k c d same = absurd (nothing_there m c)
+same_method (x ∷ rest) once m k c d same =
+    by (Contains-cases x rest m c) (Contains-cases x rest k d)
+    (λ here there. same_method rest once_there m k here there same)
+  where
+    once_there : AreOnce rest
+    once_there before after one other is there =
+        once (x ∷ before) after one other (ap (λ xs. x ∷ xs) is) (Contains-rest x before other there)
+
+    -- the first isn't one that stands behind it
+    apart : (one : PlainMethod) → Contains rest one → one.header.name.name ≡ x.header.name.name → ⊥
+    apart one there named =
+        let its = split rest one there in
+        once (x ∷ its.0) its.1 one x (ap (λ xs. x ∷ xs) its.2) (Contains-first x its.0) named
+
+    by : (x ≡ m) ⊎ Contains rest m → (x ≡ k) ⊎ Contains rest k → (Contains rest m → Contains rest k → m ≡ k) → m ≡ k
+    by (inl first) (inl second) later = sym first ∙ second
+    by (inl first) (inr there) later =
+        absurd (apart k there (sym same ∙ sym (ap (λ (o : PlainMethod). o.header.name.name) first)))
+    by (inr there) (inl second) later =
+        absurd (apart m there (same ∙ sym (ap (λ (o : PlainMethod). o.header.name.name) second)))
+    by (inr here) (inr there) later = later here there
+
+-- a method of the name of one of the class has its signature
+signature_of : (wanted given : WrittenType → Option Meaning) (all : List (Header Bytes)) (methods : List PlainMethod)
+    → AreMethods wanted given all methods → (h : Header Bytes) → Contains all h → (k : PlainMethod) → Contains methods k
+    → h.name.name ≡ k.header.name.name → SameSignature wanted given h k.header
+signature_of wanted given all methods are h c k there named =
+    let its = are.defined h c in
+    subst (λ (m : PlainMethod). SameSignature wanted given h m.header)
+    (same_method methods are.once its.0 k its.1 there (sym its.2 ∙ named)) its.3
+
 -- ---- the class
 
 module _ (program : List ModuleParts) where
@@ -172,6 +242,31 @@ module _ (program : List ModuleParts) where
       (ap (class_in (visible_at program d.place d.part)) (sym says) ∙ sym (ap (class_standing program) found) ∙ e)
 
 -- ---- a row has the methods of its class
+
+module _ (program : List ModuleParts) (noted : List NotedParts) where
+  -- the signature of a header, where it is written in a body, is that of one of a class, where the head of a
+  -- row stands for the class's parameter
+  abbrev pub IsSignedIn : ClassText → Header Bytes → Row → BodyOf → Type 0
+  IsSignedIn its h row body =
+      SameSignature (wanted (heads_of program) its row.head)
+      (given (heads_of program) (types_at program body.place Body) (written_params body.generics)) h body.header
+
+  -- A method of a class that a row gives at a closed type is shipped; or else its body is there, over the type
+  -- parameters of the row, and has its signature.
+  pub data MethodStands (its : ClassText) (h : Header Bytes) (row : Row) (t : ClosedType) : Type 0 where
+    stands_shipped : (call : ShippedCall)
+        → prim_of (module_name program row.instance.«module») h.name.name (kind_of t) ≡ Some call
+        → MethodStands its h row t
+    stands_here : (body : BodyOf)
+        → body_of program noted (record { at = row.instance; name = h.name.name }) ≡ Some body
+        → bounds_of program body ≡ row.generics → parameters row.generics ≡ written_params body.generics
+        → IsSignedIn its h row body → MethodStands its h row t
+
+  -- without its signature
+  unsigned : (its : ClassText) (h : Header Bytes) (row : Row) (t : ClosedType) → MethodStands its h row t
+      → MethodIsThere program noted h.name.name row t
+  unsigned its h row t (stands_shipped call is) = method_is_shipped call is
+  unsigned its h row t (stands_here body there bounds over signed) = method_has_body body there bounds
 
 module _ (program : List ModuleParts) (noted : List NotedParts) (derived : IsDerived program noted)
     (declared : AllDeclarationsAreGood program) (promises : AllFulfil program) (gathered : IsGathered program)
@@ -212,6 +307,7 @@ module _ (program : List ModuleParts) (noted : List NotedParts) (derived : IsDer
       (methods : List PlainMethod) → methods_written e ≡ Some methods → text.methods ≡ Some methods
       → (body : BodyOf) × (body_of program noted its_target ≡ Some body) × (body.place ≡ text.number.«module»)
       × (body.generics ≡ generics_of e)
+      × (k : PlainMethod) × Contains methods k × (name ≡ k.header.name.name) × (body.header ≡ k.header)
   body_there d found at_place index defining e stands methods written is =
       let its = noted_there program noted derived.erased d.place index m e
       (ap (slice_get program) at_place ∙ there) stands in
@@ -223,9 +319,40 @@ module _ (program : List ModuleParts) (noted : List NotedParts) (derived : IsDer
             ∙ ap (option_and_then (body_in d.place name)) its.1 ∙ has.1,
         has.2 ∙ at_place,
         has.3 ∙ ap generics_of its.2,
+        has.4,
+        has.5,
+        has.6,
+        has.7,
       )
 
-  pub of_defined : IsDefined m text → MethodIsThere program noted name good.row t
+  -- with the signature of the class's method
+  its_names : types_at program text.number.«module» Body ≡ good.names
+  its_names = same_Some (types_at program text.number.«module» Body) good.names (visible_there ∙ good.seen)
+    where
+      visible_there : Some (types_at program text.number.«module» Body) ≡ visible_at program text.number.«module» Body
+      visible_there = rw there refl
+
+  stands_so : (methods : List PlainMethod) → text.methods ≡ Some methods → (body : BodyOf)
+      → body_of program noted its_target ≡ Some body → body.place ≡ text.number.«module»
+      → bounds_of program body ≡ good.row.generics → parameters good.row.generics ≡ written_params body.generics
+      → (k : PlainMethod) → Contains methods k → name ≡ k.header.name.name → body.header ≡ k.header
+      → MethodStands program noted good.class h good.row t
+  stands_so methods is body has at_place bounds over k among named header =
+      stands_here body has bounds over
+      (subst (λ (it : Header Bytes). Signed (types_at program body.place Body) (written_params body.generics) it)
+      (sym header)
+      (subst (λ ps. Signed (types_at program body.place Body) ps k.header) over
+      (subst (λ names. Signed names (parameters good.row.generics) k.header)
+      (sym its_names ∙ ap (λ n. types_at program n Body) (sym at_place))
+      (signature_of (wanted (heads_of program) good.class good.row.head)
+      (given (heads_of program) good.names (parameters good.row.generics)) good.class.methods methods
+      (good.methods methods is) h listed k among named))))
+    where
+      Signed : List (Bytes × DeclAt) → List Parameter → Header Bytes → Type 0
+      Signed names ps it =
+          SameSignature (wanted (heads_of program) good.class good.row.head) (given (heads_of program) names ps) h it
+
+  pub of_defined : IsDefined m text → MethodStands program noted good.class h good.row t
   of_defined its =
       let number = says.2.number in
       let says_it : PlainDeclaration = instance_body its.at text.generics text.name text.of its.written in
@@ -238,19 +365,23 @@ module _ (program : List ModuleParts) (noted : List NotedParts) (derived : IsDer
             says_it;
       }) (ap (standing_at program) number ∙ stands) refl its.index refl says_it its.stands
       its.written refl its.methods in
-      method_has_body body.0 body.1
-      (bounds_here program body.0 text.number.«module» body.2 text.generics good.row.generics body.3
-      (subst (λ p. generics_meant (types_at program text.number.«module» p) (heads_of program) text.generics
-      ≡ Are good.row.generics) its.part means_at))
+      let means : generics_meant (types_at program text.number.«module» Body) (heads_of program) text.generics
+      ≡ Are good.row.generics =
+      subst (λ p. generics_meant (types_at program text.number.«module» p) (heads_of program) text.generics
+      ≡ Are good.row.generics) its.part means_at in
+      stands_so its.written its.methods body.0 body.1 body.2
+      (bounds_here program body.0 text.number.«module» body.2 text.generics good.row.generics body.3 means)
+      (params_written (types_at program text.number.«module» Body) (heads_of program) text.generics good.row.generics
+      means ∙ ap written_params (sym body.3)) body.4 body.5 body.6 body.7
 
   pub of_promised : (at : DeclAt) (d : Standing) → standing_at program at ≡ Some d → good.row.class ≡ at →
       (p : Pos) (n : Placed Bytes) (param : InUniverse Bytes) (methods : List (Header Bytes)) →
       d.says ≡ class p n param methods → Contains methods h
-      → IsPromised program m text → MethodIsThere program noted name good.row t
+      → IsPromised program m text → MethodStands program noted good.class h good.row t
   of_promised at d found of_class p n param methods says_class among its = by m.interface refl m.body refl
     where
       by : (interface : Option Entry) → m.interface ≡ interface → (body : Option Entry) → m.body ≡ body →
-          MethodIsThere program noted name good.row t
+          MethodStands program noted good.class h good.row t
       by None none other same =
           absurd (none-some (instance its.at text.generics text.name text.of)
           (sym (ap (λ o. slice_get (declarations_in o) text.number.decl) none) ∙ its.stands))
@@ -260,7 +391,7 @@ module _ (program : List ModuleParts) (noted : List NotedParts) (derived : IsDer
           (subst (λ part. visible_at program text.number.«module» part ≡ Some says.0) its.part says.1)
           (heads_of program) good.row.class says.2.class
           d (ap (standing_at program) of_class ∙ found) p n param methods says_class h among (kind_of t) in
-          method_is_shipped call.0
+          stands_shipped call.0
           (ap (λ k. prim_of (module_name program k) name (kind_of t)) (ap (λ (x : DeclAt). x.«module») says.2.number)
           ∙ ap (λ home. prim_of home name (kind_of t)) (name_there program text.number.«module» m there) ∙ call.1)
       by (Some interface) of_interface (Some entry) of_body =
@@ -296,19 +427,28 @@ module _ (program : List ModuleParts) (noted : List NotedParts) (derived : IsDer
           let body = body_there standing
           (ap (standing_at program) says.2.number ∙ stands_promised program text.number m promise there
           its.stands) refl index defining passes.0 stands agrees.0 agrees.1 methods_are in
-          method_has_body body.0 body.1
+          let means : generics_meant (types_at program text.number.«module» Interface) (heads_of program) text.generics
+          ≡ Are good.row.generics =
+          subst (λ part. generics_meant (types_at program text.number.«module» part) (heads_of program)
+          text.generics ≡ Are good.row.generics) its.part means_at in
+          stands_so agrees.0 methods_are body.0 body.1 body.2
           (bounds_promised program body.0 text.number.«module» body.2 m text.generics (generics_of passes.0)
-          good.row.generics there body.3 agrees.2
-          (subst (λ part. generics_meant (types_at program text.number.«module» part) (heads_of program)
-          text.generics ≡ Are good.row.generics) its.part means_at)
+          good.row.generics there body.3 agrees.2 means
           (misfit_none program noted declared derived its_target body.0 body.1))
+          (params_written (types_at program text.number.«module» Interface) (heads_of program) text.generics
+          good.row.generics means ∙ same_params sight text.generics (generics_of passes.0) agrees.2
+          ∙ ap written_params (sym body.3)) body.4 body.5 body.6 body.7
 
 -- ---- of each row
 
-pub methods_hold : (program : List ModuleParts) (noted : List NotedParts) → IsDerived program noted →
+pub methods_stand : (program : List ModuleParts) (noted : List NotedParts) → IsDerived program noted →
     AllDeclarationsAreGood program → InstancesAreGood program → AllFulfil program → IsGathered program →
-    MethodsAreThere program noted
-methods_hold program noted derived declared instances promises gathered at d found place name p methods says h
+    (at : DeclAt) (d : Standing) → standing_at program at ≡ Some d → (place : Pos) (name : Placed Bytes)
+    (p : InUniverse Bytes) (methods : List (Header Bytes)) → d.says ≡ class place name p methods →
+    (h : Header Bytes) → Contains methods h → (row : Row) (t : ClosedType)
+    → ClosedInstance (rows_of program) (heads_of program) at t row
+    → (its : ClassText) × (class_at program at ≡ Some its) × MethodStands program noted its h row t
+methods_stand program noted derived declared instances promises gathered at d found place name p methods says h
     listed row t (by_row its_class u one s there of_class becomes held) =
     let read = read_of program (instances_of program) row there in
     let parts = split (instances_of program) read.0 read.1 in
@@ -318,16 +458,27 @@ methods_hold program noted derived declared instances promises gathered at d fou
     let its_methods = class_methods program at d found place name p methods says good.class
     (ap (class_at program) (sym class_is) ∙ good.of_class) in
     let among = subst (λ hs. Contains hs h) (sym its_methods) listed in
-    let stands = text_stands program read.0 read.1 in
-    subst (λ r. MethodIsThere program noted h.name.name r t) same (by good class_is among stands)
+    let stands = text_stands program read.0 read.1 in (
+      good.class,
+      ap (class_at program) (sym class_is) ∙ good.of_class,
+      subst (λ r. MethodStands program noted good.class h r t) same (by good class_is among stands),
+    )
   where
     by : {text : InstanceText} {before : List InstanceText} (good : IsGood program before text) →
         good.row.class ≡ at → Contains good.class.methods h
         → (m : ModuleParts) × (slice_get program text.number.«module» ≡ Some m)
-        × (IsPromised program m text ⊎ IsDefined m text) → MethodIsThere program noted h.name.name good.row
-        t
+        × (IsPromised program m text ⊎ IsDefined m text) → MethodStands program noted good.class h good.row t
     by {text} {before} good class_is among (m, is, inl its) =
         of_promised program noted derived declared promises gathered text before good h among t m is at d
         found class_is place name p methods says listed its
     by {text} {before} good class_is among (m, is, inr its) =
         of_defined program noted derived declared promises gathered text before good h among t m is its
+
+pub methods_hold : (program : List ModuleParts) (noted : List NotedParts) → IsDerived program noted →
+    AllDeclarationsAreGood program → InstancesAreGood program → AllFulfil program → IsGathered program →
+    MethodsAreThere program noted
+methods_hold program noted derived declared instances promises gathered at d found place name p methods says h
+    listed row t gives =
+    let its = methods_stand program noted derived declared instances promises gathered at d found place name p methods
+    says h listed row t gives in
+    unsigned program noted its.0 h row t its.2

@@ -146,7 +146,7 @@ role_of part (record_type at name ps u fields) = type_role part
 role_of part (union_type at name ps u cases) = type_role part
 role_of part other = Whole
 
-abbrev IsTop : Role → Type 0
+abbrev pub IsTop : Role → Type 0
 IsTop Local = ⊥
 IsTop role = Unit {0}
 
@@ -181,18 +181,18 @@ marked part (union_type at n ps u cases) name (inr later) = absurd later
 marked part (class at n p methods) name (inr later) = absurd later
 marked part other name m = absurd m
 
--- ---- two marks of one type
+-- ---- two marks of one name
 
-module _ (all : List Mark) (new : AreNew nothing [] all) (name : Bytes) where
+module _ (all : List Mark) (new : AreNew nothing [] all) (kind : Kind) (name : Bytes) where
   abbrev of : Role → Pos → Mark
-  of role at = Declares role Types name at
+  of role at = Declares role kind name at
 
   second : (a mid c : List Mark) (r s : Role) (p q : Pos) → all ≡ a ++ of r p ∷ (mid ++ of s q ∷ c) →
-      IsNew nothing (a ++ of r p ∷ mid) s Types name
-  second a mid c r s p q e = new (a ++ of r p ∷ mid) c s Types name q
+      IsNew nothing (a ++ of r p ∷ mid) s kind name
+  second a mid c r s p q e = new (a ++ of r p ∷ mid) c s kind name q
       (e ∙ sym (append_assoc a (of r p ∷ mid) (of s q ∷ c)))
 
-  here : (a mid : List Mark) (r : Role) (p : Pos) → IsUnknown (a ++ of r p ∷ mid) Types name → ⊥
+  here : (a mid : List Mark) (r : Role) (p : Pos) → IsUnknown (a ++ of r p ∷ mid) kind name → ⊥
   here a mid r p unknown = unknown r (p, contains (a ++ of r p ∷ mid) (of r p) (among_middle a (of r p) mid))
 
   -- the later one defines what the earlier one promises
@@ -205,7 +205,7 @@ module _ (all : List Mark) (new : AreNew nothing [] all) (name : Bytes) where
   two_marks a mid c Promise Definition p q e t u = (refl, refl)
   two_marks a mid c Definition Definition p q e t u = absurd (on (second a mid c Definition Definition p q e))
     where
-      on : IsUnknown (a ++ of Definition p ∷ mid) Types name ⊎ IsDue (a ++ of Definition p ∷ mid) Types name → ⊥
+      on : IsUnknown (a ++ of Definition p ∷ mid) kind name ⊎ IsDue (a ++ of Definition p ∷ mid) kind name → ⊥
       on (inl unknown) = here a mid Definition p unknown
       on (inr due) = due.1 (
         p,
@@ -215,40 +215,56 @@ module _ (all : List Mark) (new : AreNew nothing [] all) (name : Bytes) where
   two_marks a mid c Whole Definition p q e t u = absurd (on (second a mid c Whole Definition p q e))
     where
       promised : (at : Pos) → Among (of Promise at) a ⊎ Among (of Promise at) (of Whole p ∷ mid) → ⊥
-      promised at (inl before) = new a (mid ++ of Definition q ∷ c) Whole Types name p e Promise
+      promised at (inl before) = new a (mid ++ of Definition q ∷ c) Whole kind name p e Promise
           (at, contains a (of Promise at) before)
       promised at (inr (inl is)) = absurd cc
       promised at (inr (inr behind)) =
           let its = split_at mid (of Promise at) behind in
           here a its.0 Whole p
-          (new (a ++ of Whole p ∷ its.0) (its.1 ++ of Definition q ∷ c) Promise Types name at
+          (new (a ++ of Whole p ∷ its.0) (its.1 ++ of Definition q ∷ c) Promise kind name at
           (e ∙ ap (λ l. a ++ of Whole p ∷ (l ++ of Definition q ∷ c)) its.2
           ∙ ap (λ l. a ++ of Whole p ∷ l) (append_assoc its.0 (of Promise at ∷ its.1) (of Definition q ∷ c))
           ∙ sym (append_assoc a (of Whole p ∷ its.0) (of Promise at ∷ (its.1 ++ of Definition q ∷ c)))))
 
-      on : IsUnknown (a ++ of Whole p ∷ mid) Types name ⊎ IsDue (a ++ of Whole p ∷ mid) Types name → ⊥
+      on : IsUnknown (a ++ of Whole p ∷ mid) kind name ⊎ IsDue (a ++ of Whole p ∷ mid) kind name → ⊥
       on (inl unknown) = here a mid Whole p unknown
       on (inr due) =
           promised due.0.0 (among-append a (of Whole p ∷ mid) (of Promise due.0.0)
           (among (a ++ of Whole p ∷ mid) (of Promise due.0.0) due.0.1))
 
--- Of two declarations of one type in a module, the first promises it and the second defines it.
+-- Of two declarations of one name in a module, the first promises it and the second defines it.
+pub two_declared : (all : List Standing) → AreNew nothing [] (flat_map said all) →
+    (i j : ℕ) (d e : Standing) (kind : Kind) (name : Bytes) (r s : Role) (p q : Pos) → i < j
+    → slice_get all i ≡ Some d → slice_get all j ≡ Some e
+    → Among (Declares r kind name p) (said d) → Among (Declares s kind name q) (said e) → IsTop r → IsTop s
+    → (r ≡ Promise) × (s ≡ Definition)
+two_declared all new i j d e kind name r s p q before one two m n t u =
+    let its = two_split said all i j d e before one two in
+    let first = split_at (said d) (Declares r kind name p) m in
+    let later = split_at (said e) (Declares s kind name q) n in
+    let mine = Declares r kind name p in
+    let other = Declares s kind name q in
+    two_marks (flat_map said all) new kind name (its.0 ++ first.0) (first.1 ++ (its.1 ++ later.0)) (later.1 ++ its.2) r s p q
+    (its.3 ∙ ap (λ l. its.0 ++ (l ++ (its.1 ++ (said e ++ its.2)))) first.2
+    ∙ ap (λ l. its.0 ++ ((first.0 ++ mine ∷ first.1) ++ (its.1 ++ (l ++ its.2)))) later.2
+    ∙ ap (λ l. its.0 ++ l) (append_assoc first.0 (mine ∷ first.1) (its.1 ++ ((later.0 ++ other ∷ later.1) ++ its.2)))
+    ∙ sym (append_assoc its.0 first.0 (mine ∷ (first.1 ++ (its.1 ++ ((later.0 ++ other ∷ later.1) ++ its.2)))))
+    ∙ ap (λ l. (its.0 ++ first.0) ++ mine ∷ (first.1 ++ (its.1 ++ l))) (append_assoc later.0 (other ∷ later.1) its.2)
+    ∙ ap (λ l. (its.0 ++ first.0) ++ mine ∷ (first.1 ++ l)) (sym (append_assoc its.1 later.0 (other ∷ (later.1 ++ its.2))))
+    ∙ ap (λ l. (its.0 ++ first.0) ++ mine ∷ l)
+    (sym (append_assoc first.1 (its.1 ++ later.0) (other ∷ (later.1 ++ its.2))))) t u
+
+-- So it is of two declarations of one type.
 pub two_types : (all : List Standing) → AreNew nothing [] (flat_map said all) →
     (i j : ℕ) (d e : Standing) (name : Bytes) → i < j → slice_get all i ≡ Some d → slice_get all j ≡ Some e
     → Among name (type_names d.says) → Among name (type_names e.says) → (role_of d.part d.says ≡ Promise)
     × (role_of e.part e.says ≡ Definition)
 two_types all new i j d e name before one two m n =
-    let its = two_split said all i j d e before one two in
     let first = marked d.part d.says name m in
     let later = marked e.part e.says name n in
-    two_marks (flat_map said all) new name its.0 (first.1 ++ its.1) (later.1 ++ its.2) (role_of d.part d.says)
-    (role_of e.part e.says) first.0 later.0
-    (its.3 ∙ ap (λ l. its.0 ++ (l ++ (its.1 ++ (said e ++ its.2)))) first.2
-    ∙ ap (λ l. its.0 ++ (Declares (role_of d.part d.says) Types name
-    first.0 ∷ (first.1 ++ (its.1 ++ (l ++ its.2))))) later.2
-    ∙ ap (λ l. its.0 ++ Declares (role_of d.part d.says) Types name first.0 ∷ l)
-    (sym (append_assoc first.1 its.1
-    (Declares (role_of e.part e.says) Types name later.0 ∷ (later.1 ++ its.2)))))
+    two_declared all new i j d e Types name (role_of d.part d.says) (role_of e.part e.says) first.0 later.0 before one two
+    (subst (Among (Declares (role_of d.part d.says) Types name first.0)) (sym first.2) (inl refl))
+    (subst (Among (Declares (role_of e.part e.says) Types name later.0)) (sym later.2) (inl refl))
     (top_role d.part d.says) (top_role e.part e.says)
 
 -- ---- type parameters

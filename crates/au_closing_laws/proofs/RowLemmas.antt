@@ -90,7 +90,7 @@ given_found all s (first ∷ names) name c =
     by later (inl same) = inl same
     by later (inr there) = inr (later there)
 
-picked_found : (pairs : Given) (names : List Bytes) (name : Bytes) → Contains names name
+pub picked_found : (pairs : Given) (names : List Bytes) (name : Bytes) → Contains names name
     → given_for (picked pairs names) name ≡ given_for pairs name
 picked_found pairs [] name c = absurd (nothing_there name c)
 picked_found pairs (first ∷ names) name c =
@@ -112,7 +112,7 @@ not_both universes.AnyType is wants = absurd cc
 not_both universes.Region is wants = absurd cc
 
 -- a type parameter that is one of the arguments is one of the types among them
-among : (params : List Parameter) (args : Arguments) (name : Bytes) (universe : Universe)
+pub among : (params : List Parameter) (args : Arguments) (name : Bytes) (universe : Universe)
     → universe_in params name ≡ Some universe → is_region universe ≡ false
     → are_parameters params args ≡ true → stands_in name args ≡ true
     → list_any (λ t. is_called name (type_name t)) (types_in args) ≡ true

@@ -53,7 +53,7 @@ use Rattle.au_closing_laws.specs.Targets.{IsTypeOf}
 -- ---- classes that constrain
 
 -- a class that is known to constrain a name is listed so
-known_listed : (known : Known) (name : Bytes) (class : DeclAt) → is_known known name class ≡ true →
+pub known_listed : (known : Known) (name : Bytes) (class : DeclAt) → is_known known name class ≡ true →
     Contains known (name, class)
 known_listed [] name class e = absurd cc
 known_listed (one ∷ rest) name class e =

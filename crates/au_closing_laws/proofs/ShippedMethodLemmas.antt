@@ -142,6 +142,36 @@ find_target place name (p ∷ ps) = by (bytes_eq name p.0) (find_target place na
     by true later = refl
     by false later = later
 
+-- a shipped module sees what it declares itself
+pub own_seen : (program : List ModuleParts) (place : ℕ) (m : ModuleParts) (x : Entry) → m ≡ shipped_module x
+    → (part : Part) (name : Bytes) (number : ℕ)
+    → tables.find name (names_in Types (numbered 0 x.tree.declarations)) ≡ Some number
+    → tables.find name (declared_by (seen Types program place m part))
+    ≡ Some (record { «module» = place; decl = number })
+own_seen program place m x same part name number e =
+    find_declared name (seen Types program place m part)
+    ∙ ap (option_map (λ (y : Target). y.at))
+    (find-firsts name (meanings Types program place m part)
+    ∙ find-front name (own Types place m
+    ++ imported Types program place (imports_in (part_of part m)))
+    (pervasive Types program) own_found.0
+    (find-front name (own Types place m)
+    (imported Types program place (imports_in (part_of part m))) own_found.0
+    own_found.1))
+    ∙ ap Some own_found.2
+  where
+    own_is : own Types place m ≡ targets place (names_in Types (numbered 0 x.tree.declarations))
+    own_is = ap (own Types place) same ∙ ap (λ ds. targets place (names_in Types (numbered 0 ds)))
+        (append-nil x.tree.declarations)
+
+    own_found : (target : Target) × (tables.find name (own Types place m) ≡ Some target)
+        × (target.at ≡ record { «module» = place; decl = number })
+    own_found = map_some (λ (y : Target). y.at) (tables.find name (own Types place m))
+        (record { «module» = place; decl = number })
+        (ap (λ xs. option_map (λ (y : Target). y.at) (tables.find name xs)) own_is
+        ∙ find_target place name (names_in Types (numbered 0 x.tree.declarations))
+        ∙ ap (option_map (λ j. record { «module» = place; decl = j })) e)
+
 -- a declaration that is a class is the one that is seen
 class_seen : (heads : List (DeclAt × Head)) (o : Option DeclAt) (at : DeclAt) → declared_class heads o
     ≡ Some at → o ≡ Some at
@@ -158,6 +188,25 @@ class_seen heads (Some other) at e = by (head_of heads other) refl e
         ≡ Some at → Some other ≡ Some at
     by None is e = sym (unheaded is) ∙ e
     by (Some head) is e = absurd (none-some at (sym (headed head is) ∙ e))
+
+-- a class that a shipped module declares itself is the one that its name means there
+pub class_numbered : (program : List ModuleParts) (place : ℕ) (m : ModuleParts) → slice_get program place ≡ Some m
+    → (x : Entry) → m ≡ shipped_module x
+    → (names : List (Bytes × DeclAt)) → visible_at program place Interface ≡ Some names
+    → (heads : List (DeclAt × Head)) (name : Bytes) (its_class : DeclAt) → class_meant [] names heads name ≡ Some its_class
+    → (number : ℕ) → tables.find name (names_in Types (numbered 0 x.tree.declarations)) ≡ Some number
+    → record { «module» = place; decl = number } ≡ its_class
+class_numbered program place m there x same names sees heads name its_class means number e =
+    same_Some (record { «module» = place; decl = number }) its_class
+    (sym (ap (tables.find name) names_are ∙ own_seen program place m x same Interface name number e) ∙ seen_so)
+  where
+    -- what is seen under the name
+    seen_so : tables.find name names ≡ Some its_class
+    seen_so = class_seen heads (tables.find name names) its_class (class_found heads [] names name its_class means)
+
+    names_are : names ≡ declared_by (seen Types program place m Interface)
+    names_are = sym (same_Some (visible program place m Interface) names
+        (sym (ap (visible_in program place Interface) there) ∙ sees))
 
 -- ---- the methods
 
@@ -207,47 +256,17 @@ module _ (program : List ModuleParts) (is : IsGathered program) (place : ℕ) (m
           (sym (ap (λ (y : ModuleParts). slice_get (declarations_in y.interface) k) same) ∙ stands)) in
           numbered_so (tables.find name.name (names_in Types (numbered 0 x.tree.declarations))) refl covered
         where
-          -- what is seen under the name
-          seen_so : tables.find name.name names ≡ Some its_class
-          seen_so = class_seen heads (tables.find name.name names) its_class
-              (class_found heads [] names name.name its_class means)
-
-          names_are : names ≡ declared_by (seen Types program place m Interface)
-          names_are = sym (same_Some (visible program place m Interface) names
-              (sym (ap (visible_in program place Interface) there) ∙ sees))
-
           numbered_so : (o : Option ℕ) →
               tables.find name.name (names_in Types (numbered 0 x.tree.declarations)) ≡ o →
               covers (joined x.tree.name) x.tree.declarations o ≡ true → IsOwnClass its_class
           numbered_so None e known = cc
-          numbered_so (Some number) e known = (x, same, number, class_is, known)
-            where
-              own_is : own Types place m ≡ targets place (names_in Types (numbered 0 x.tree.declarations))
-              own_is = ap (own Types place) same ∙ ap (λ ds. targets place (names_in Types (numbered 0 ds)))
-                  (append-nil x.tree.declarations)
-
-              own_found : (target : Target) × (tables.find name.name (own Types place m) ≡ Some target)
-                  × (target.at ≡ record { «module» = place; decl = number })
-              own_found = map_some (λ (y : Target). y.at) (tables.find name.name (own Types place m))
-                  (record { «module» = place; decl = number })
-                  (ap (λ xs. option_map (λ (y : Target). y.at) (tables.find name.name xs)) own_is
-                  ∙ find_target place name.name (names_in Types (numbered 0 x.tree.declarations))
-                  ∙ ap (option_map (λ j. record { «module» = place; decl = j })) e)
-
-              class_is : record { «module» = place; decl = number } ≡ its_class
-              class_is = same_Some (record { «module» = place; decl = number }) its_class
-                  (sym (ap (tables.find name.name) names_are
-                  ∙ find_declared name.name (seen Types program place m Interface)
-                  ∙ ap (option_map (λ (y : Target). y.at))
-                  (find-firsts name.name (meanings Types program place m Interface)
-                  ∙ find-front name.name (own Types place m
-                  ++ imported Types program place (imports_in (part_of Interface m)))
-                  (pervasive Types program) own_found.0
-                  (find-front name.name (own Types place m)
-                  (imported Types program place (imports_in (part_of Interface m))) own_found.0
-                  own_found.1))
-                  ∙ ap Some own_found.2)
-                  ∙ seen_so)
+          numbered_so (Some number) e known = (
+            x,
+            same,
+            number,
+            class_numbered program place m there x same names sees heads name.name its_class means number e,
+            known,
+          )
 
   -- so it is of that module
   pub class_is_here : (k : ℕ) (at : Pos) (generics : List (Constrained Bytes)) (name : Placed Bytes)

@@ -41,15 +41,17 @@ use Rattle.au_classes.specs.Rows.{row_in, row_of, row_of_class, row_over, row_se
 -- ---- what a row says
 
 module _ (text : InstanceText) (names : List (Bytes × DeclAt)) (heads : List (DeclAt × Head)) where
-  -- the row of an instance has its number, the class that its name means, and what its type parameters mean
+  -- the row of an instance has its number, the class that its name means, what its type parameters mean, and
+  -- the type that it is judged to be for
   pub record Says (row : Row) : Type 0 where
     pub number : row.instance ≡ text.number
     pub class : class_meant [] names heads text.name.name ≡ Some row.class
     pub generics : generics_meant names heads text.generics ≡ Are row.generics
+    pub head : found (judged [] (parameters row.generics) names heads text.of) ≡ Some row.head
 
   says_with : (its_class : DeclAt) (generics : List Bounded) (o : Option Meaning) (row : Row) →
       row_with text names heads its_class generics o ≡ Some row
-      → (row.instance ≡ text.number) × (row.class ≡ its_class) × (row.generics ≡ generics)
+      → (row.instance ≡ text.number) × (row.class ≡ its_class) × (row.generics ≡ generics) × (o ≡ Some row.head)
   says_with its_class generics None row e = absurd (none-some row e)
   says_with its_class generics (Some head) row e =
       let is = sym (same_Some (record {
@@ -58,15 +60,24 @@ module _ (text : InstanceText) (names : List (Bytes × DeclAt)) (heads : List (D
         generics = generics;
         head =
             head;
-      }) row e) in
-      (ap (λ (r : Row). r.instance) is, ap (λ (r : Row). r.class) is, ap (λ (r : Row). r.generics) is)
+      }) row e) in (
+        ap (λ (r : Row). r.instance) is,
+        ap (λ (r : Row). r.class) is,
+        ap (λ (r : Row). r.generics) is,
+        ap (λ (r : Row). Some r.head) (sym is),
+      )
 
   says_over : (its_class : DeclAt) (o : Meant) (row : Row) → row_over text names heads its_class o
       ≡ Some row → (row.instance ≡ text.number) × (row.class ≡ its_class) × (o ≡ Are row.generics)
+      × (found (judged [] (parameters row.generics) names heads text.of) ≡ Some row.head)
   says_over its_class (Fails why) row e = absurd (none-some row e)
   says_over its_class (Are generics) row e =
-      let its = says_with its_class generics (found (judged [] (parameters generics) names heads text.of)) row e in
-      (its.0, its.1, ap Are (sym its.2))
+      let its = says_with its_class generics (found (judged [] (parameters generics) names heads text.of)) row e in (
+        its.0,
+        its.1,
+        ap Are (sym its.2),
+        ap (λ gs. found (judged [] (parameters gs) names heads text.of)) its.2 ∙ its.3,
+      )
 
   pub row_says : (row : Row) → row_in text names heads ≡ Some row → Says row
   row_says row e = by (class_meant [] names heads text.name.name) refl e
@@ -76,7 +87,7 @@ module _ (text : InstanceText) (names : List (Bytes × DeclAt)) (heads : List (D
       by None is e = absurd (none-some row e)
       by (Some its_class) is e =
           let its = says_over its_class (generics_meant names heads text.generics) row e in
-          record { number = its.0; class = is ∙ ap Some (sym its.1); generics = its.2 }
+          record { number = its.0; class = is ∙ ap Some (sym its.1); generics = its.2; head = its.3 }
 
 -- a row that is read says what is written
 pub row_read : (program : List ModuleParts) (text : InstanceText) (row : Row) → row_of program text ≡ Some row

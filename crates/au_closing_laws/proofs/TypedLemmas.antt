@@ -50,7 +50,7 @@ use Rattle.au_closing_laws.proofs.PutLemmas.{class_put}
 use Rattle.au_closing_laws.proofs.TableLemmas.{good_table}
 
 -- what has a class's type parameter and the class
-callable_class : (generics : List Bounded) (of : Option (Bytes × DeclAt)) (given : Option (List Typed))
+pub callable_class : (generics : List Bounded) (of : Option (Bytes × DeclAt)) (given : Option (List Typed))
     (result : Option Meaning) (c : Callable) → callable generics of given result ≡ Some c →
     (c.generics ≡ generics) × (c.class ≡ of)
 callable_class generics of (Some given) (Some result) c e =
@@ -65,12 +65,9 @@ not_region universes.Linear other = refl
 not_region universes.AnyType other = refl
 not_region universes.Region other = absurd (other refl)
 
-module _ (program : List ModuleParts) (noted : List NotedParts) (derived : IsDerived program noted)
-    (declared : AllDeclarationsAreGood program) (instances : InstancesAreGood program)
-    (promises : AllFulfil program)
-    (premises : Premises program noted) where
+module _ (program : List ModuleParts) (declared : AllDeclarationsAreGood program) where
   -- the type parameter of a class is no region
-  class_universe : (at : DeclAt) (d : Standing) → standing_at program at ≡ Some d →
+  pub class_universe : (at : DeclAt) (d : Standing) → standing_at program at ≡ Some d →
       (place : Pos) (name : Placed Bytes) (p : InUniverse Bytes) (methods : List (Header Bytes)) →
       d.says ≡ class place name p methods
       → is_region p.universe ≡ false
@@ -91,6 +88,10 @@ module _ (program : List ModuleParts) (noted : List NotedParts) (derived : IsDer
           ((made_there program declared at.«module» m d.index d.says is its.2).written
           (a_universe p.name.at p.universe) written)
 
+module _ (program : List ModuleParts) (noted : List NotedParts) (derived : IsDerived program noted)
+    (declared : AllDeclarationsAreGood program) (instances : InstancesAreGood program)
+    (promises : AllFulfil program)
+    (premises : Premises program noted) where
   module _ (caller : Target) (body : BodyOf) (there : body_of program noted caller ≡ Some body) (call : Call)
       (listed : Contains (calls_listed body.block) call) (meant : IsMeant program body call) where
     abbrev IsTypedAs : Called → Type 0
@@ -130,7 +131,7 @@ module _ (program : List ModuleParts) (noted : List NotedParts) (derived : IsDer
         is_type = subst (λ bs. IsTypeOf (parameters bs) p.name.name p.universe) (sym of_class.0)
             (record {
               declared = of_itself;
-              is_type = class_universe meant.target.at meant.declared
+              is_type = class_universe program declared meant.target.at meant.declared
                   meant.found place name p methods says;
             })
 

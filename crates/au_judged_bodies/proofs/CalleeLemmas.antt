@@ -15,18 +15,19 @@ use Rattle.au_types.specs.declared.parameters.Parameter.{Parameter}
 use Rattle.au_types.specs.declared.types.DeclAt.{DeclAt}
 use Rattle.au_types.specs.declared.types.Region.{Region}
 use Rattle.au_types.specs.declared.types.Region.TheVariants.{Static, Named, Anonymous}
-use Rattle.au_types.specs.Types.{Meaning, Argument, parameter, unit, reads, of_type, in_region}
+use Rattle.au_types.specs.Types.{Meaning, Argument, Arguments, unit, truth, integer, text, parameter, named}
+use Rattle.au_types.specs.Types.{reads, writes, of_type, in_region, no_arguments, arguments}
 use Rattle.au_types.specs.Universes.{universe_in}
 use Rattle.au_matching.specs.Bindings.{Bindings, value_of}
 use Rattle.au_matching.specs.Fitting.{BindingsFit, stand_in}
 use Rattle.au_matching.specs.Forming.{argument_formed, fits}
-use Rattle.au_matching.specs.Substituted.{OfRegion, region_for, substituted, type_for}
+use Rattle.au_matching.specs.Substituted.{EachName, EachNameOfAll, OfRegion, region_for, substituted, type_for}
 use Rattle.au_matching.specs.Universes.{of_parameter, universe_of}
 use Rattle.au_matching.proofs.LawLemmas.{well_formed_stands}
 use Rattle.au_matching.proofs.SubstitutingFormedLemmas.{takes_kept}
 use Rattle.au_type_texts.specs.Closing.{closed}
 use Rattle.au_type_texts.specs.Given.{Given, closed_or_unit, closed_under, given_by, given_for}
-use Rattle.au_running_types.specs.Running.{argument_running, called, region_running, running}
+use Rattle.au_running_types.specs.Running.{all_running, argument_running, called, region_running, running}
 use Rattle.au_running_types.proofs.NameLemmas.{callees_run}
 use Rattle.au_running_types.proofs.UniverseLemmas.{formation_stays, universe_stays}
 use Rattle.au_written_types.specs.Written.{IsRegionName, IsTypeName}
@@ -35,6 +36,7 @@ use Rattle.au_running_lives.specs.Known.{InScope}
 use Rattle.au_judged_bodies.specs.StandingTypesStanding.{StandsFor}
 use Rattle.au_judged_bodies.proofs.StandingTypesStandLemmas.{known_closes}
 use Rattle.au_judged_bodies.specs.Callees.{IsPut, RegionsStand}
+use Rattle.au_judged_bodies.specs.Frames.{AreUsable, IsUsable, TypesAreUsable}
 
 -- what a call gives for a type parameter that isn't a region
 given_own : (given : Given) (put : Bindings) (inner : List Parameter) (name : List ℕ) (universe : Universe)
@@ -174,3 +176,32 @@ module _ (heads : List (DeclAt × Head)) (params : List Parameter) (regions : Li
         let its = region_put name there in
         subst (λ o. InScope active (region_for o name)) (sym (running_value name (in_region its.0) its.1))
         (region_stands its.0 (is.values name (in_region its.0) its.1))
+
+    -- ---- the regions in types
+
+    abbrev Names : Meaning → Type 0
+    Names t = EachName (IsTypeName params) (IsRegionName regions params) t
+
+    module _ (within : TypesAreUsable active params s) where
+      mutual
+        pub type_usable : (t : Meaning) → Names t → IsUsable active (running s z t)
+        type_usable unit known = tt
+        type_usable truth known = tt
+        type_usable (integer kind) known = tt
+        type_usable text known = tt
+        type_usable (parameter name) known = within name known
+        type_usable (named of args) known = all_usable args known
+        type_usable (reads to region) known = (type_usable to known.0, region_stands region known.1)
+        type_usable (writes to region) known = (type_usable to known.0, region_stands region known.1)
+
+        all_usable : (args : Arguments) → EachNameOfAll (IsTypeName params) (IsRegionName regions params) args
+            → AreUsable active (all_running s z args)
+        all_usable no_arguments known = tt
+        all_usable (arguments (of_type t) rest) known = (type_usable t known.0, all_usable rest known.1)
+        all_usable (arguments (in_region r) rest) known = (region_stands r known.0, all_usable rest known.1)
+
+      pub types_usable : TypesAreUsable active inner (called s z put)
+      types_usable name some =
+          let its = type_put name some in
+          subst (λ o. IsUsable active (type_for o name)) (sym (running_value name (of_type its.0) its.1))
+          (type_usable its.0 (is.values name (of_type its.0) its.1).1)

@@ -10,10 +10,11 @@ use Rattle.std.proofs.lemmas.Option.{none-some, same_Some}
 use Rattle.std.proofs.lemmas.Slice.Eq.{bytes_eq-Decides}
 use Rattle.au_syntax.specs.declared.declarations.Universe.TheVariants as universes
 use Rattle.au_syntax.specs.Plain.{Bytes}
-use Rattle.au_types.specs.Types.{Argument, Meaning, in_region}
+use Rattle.au_types.specs.Types.{Meaning, Argument, Arguments, unit, truth, integer, text, parameter, named}
+use Rattle.au_types.specs.Types.{reads, writes, of_type, in_region, no_arguments, arguments}
 use Rattle.au_types.specs.Universes.{universe_in}
 use Rattle.au_matching.specs.Bindings.{Bindings, value_of, with_pair}
-use Rattle.au_matching.specs.Substituted.{region_for}
+use Rattle.au_matching.specs.Substituted.{region_for, type_for}
 use Rattle.au_matching.specs.Universes.{of_parameter}
 use Rattle.au_matching.proofs.BindingLemmas.{value_of-with}
 use Rattle.au_matching.proofs.SubstitutedLemmas.{each_so}
@@ -37,7 +38,7 @@ use Rattle.au_running_lives.specs.Expressions.{IsOf}
 use Rattle.au_running_lives.specs.Known.{Callables, InScope, with_token}
 use Rattle.au_running_lives.specs.Lives.{put}
 use Rattle.au_running_lives.specs.Blocks.{IsWholeOf}
-use Rattle.au_judged_bodies.specs.Frames.{FrameFits, VariableIsThere}
+use Rattle.au_judged_bodies.specs.Frames.{AreUsable, FrameFits, IsUsable, VariableIsThere}
 use Rattle.au_judged_bodies.specs.TypedRunsLaws.{Keeps}
 use Rattle.au_judged_bodies.proofs.TypedRunsExpressionLemmas.{runs}
 use Rattle.au_judged_bodies.specs.Besides.{IsNewRegion}
@@ -58,6 +59,24 @@ more_scoped active z region (inr (y, is, on)) = inr (y, is, by (z == y) on)
     by : (b : Bool) → active y ≡ true → (if b then true else active y) ≡ true
     by true on = refl
     by false on = on
+
+module _ (active : ℕ → Bool) (z : ℕ) where
+  mutual
+    more_usable : (t : Meaning) → IsUsable active t → IsUsable (with_token z active) t
+    more_usable unit usable = tt
+    more_usable truth usable = tt
+    more_usable (integer kind) usable = tt
+    more_usable text usable = tt
+    more_usable (parameter name) usable = tt
+    more_usable (named at args) usable = all_more args usable
+    more_usable (reads to region) usable = (more_usable to usable.0, more_scoped active z region usable.1)
+    more_usable (writes to region) usable = (more_usable to usable.0, more_scoped active z region usable.1)
+
+    all_more : (args : Arguments) → AreUsable active args → AreUsable (with_token z active) args
+    all_more no_arguments usable = tt
+    all_more (arguments (of_type t) rest) usable = (more_usable t usable.0, all_more rest usable.1)
+    all_more (arguments (in_region region) rest) usable =
+        (more_scoped active z region usable.0, all_more rest usable.1)
 
 with_own : (active : ℕ → Bool) (z : ℕ) → with_token z active z ≡ true
 with_own active z = ap (λ (b : Bool). if b then true else active z) (eq-eqb z z refl)
@@ -135,6 +154,7 @@ module _ (types : Types) (owner : ClosedType → Option (List ℕ)) {I K : Type 
     variables = λ name v e. stands_later names number later scope s name v.of less (p.variables name v e);
     others = p.others;
     regions = p.regions;
+    within = p.within;
     returns = p.returns;
   }
 
@@ -164,6 +184,7 @@ module _ (types : Types) (owner : ClosedType → Option (List ℕ)) {I K : Type 
       wholes = p.round.wholes;
       records = λ t fields whole e. (p.round.records s sc.regions z t fields p.good whole e).0;
       regions = λ name is. more_scoped active z (region_for (value_of name s) name) (p.regions name is);
+      within = λ name is. more_usable active z (type_for (value_of name s) name) (p.within name is);
     }
 
     pub whole_at : (e : NotedExpression) → AllGood sc e → ModeIsKnownIn sc (mode_of e) → Keeps see scope e → (z : ℕ)
@@ -193,6 +214,7 @@ module _ (types : Types) (owner : ClosedType → Option (List ℕ)) {I K : Type 
       variables = λ name one e. by (bytes_eq v.name name) name one refl e;
       others = λ name e. none (bytes_eq v.name name) name e;
       regions = p.regions;
+      within = p.within;
       returns = p.returns;
     }
       where
@@ -250,6 +272,11 @@ module _ (types : Types) (owner : ClosedType → Option (List ℕ)) {I K : Type 
       variables = λ name v e. stays name v e (p.variables name v e);
       others = p.others;
       regions = λ name is. scoped name is;
+      within = λ name is.
+          subst (λ o. IsUsable (with_token z active) (type_for o name))
+          (value_other region (in_region (token z)) s name
+          (λ same. not_a_name sc region new (subst (IsTypeName (parameters_in sc)) same is)))
+          (more_usable active z (type_for (value_of name s) name) (p.within name is));
       returns = λ y. sym (opened_stays region (in_region (token z)) s sc new y sc.result p.knows.result.0) ∙ p.returns y;
     }
       where

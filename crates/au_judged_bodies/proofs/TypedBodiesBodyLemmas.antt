@@ -30,6 +30,7 @@ use Rattle.au_known_types.proofs.NotedLemmas.{written_known}
 use Rattle.au_running_lives.specs.Blocks.{with_types}
 use Rattle.au_running_lives.specs.Known.{Callables, InScope}
 use Rattle.au_running_lives.specs.Lives.{put}
+use Rattle.au_judged_bodies.specs.Frames.{TypesAreUsable}
 use Rattle.au_judged_bodies.specs.Rounds.{PlaceFits, RoundFits}
 use Rattle.au_judged_bodies.proofs.TypedBlocksPlaceLemmas.{place_later, place_with}
 use Rattle.au_judged_bodies.specs.Begun.{AreMeant, BodyBegins, fields_given, kinds_given}
@@ -132,6 +133,7 @@ module _ (types : Types) (owner : ClosedType → Option (List ℕ)) {I K : Type 
     variables = p.variables;
     others = p.others;
     regions = p.regions;
+    within = p.within;
     returns = λ z. type_lasts s z 0 of last;
   }
 
@@ -141,9 +143,10 @@ module _ (types : Types) (owner : ClosedType → Option (List ℕ)) {I K : Type 
       → (active : ℕ → Bool) (first : ℕ) (s : Bindings) (names : ℕ → Meaning) → Stands s
       → ((name : List ℕ) → IsRegionName [] (parameters (generics_in outside generics)) name
       → InScope active (region_for (value_of name s) name))
+      → TypesAreUsable active (parameters (generics_in outside generics)) s
       → BodyBegins types owner see known given Stands active first s names
       (outer_scope outside (generics_in outside generics)) header.parameters scope
-  body_begins outside generics header scope formed out round active first s names stands regions =
+  body_begins outside generics header scope formed out round active first s names stands regions within =
       by (with_parameters header.parameters (outer_scope outside (generics_in outside generics))) refl formed
     where
       outer : Scope
@@ -165,6 +168,7 @@ module _ (types : Types) (owner : ClosedType → Option (List ℕ)) {I K : Type 
         variables = λ name v e. absurd (none-some v e);
         others = λ name e. refl;
         regions = regions;
+        within = within;
         returns = λ z. refl;
       }
 

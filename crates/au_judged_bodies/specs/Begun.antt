@@ -21,6 +21,7 @@ use Rattle.au_meaning.specs.Views.{Field, View}
 use Rattle.au_known_types.specs.Known.{OutsideIsKnown}
 use Rattle.au_running_lives.specs.Blocks.{with_types}
 use Rattle.au_running_lives.specs.Known.{Callables, InScope}
+use Rattle.au_judged_bodies.specs.Frames.{TypesAreUsable}
 use Rattle.au_judged_bodies.specs.Rounds.{PlaceFits, RoundFits}
 
 -- what is written for parameters means these types
@@ -54,8 +55,8 @@ module _ (types : Types) (owner : ClosedType → Option (List ℕ)) {I K : Type 
         (meaning.with_parameters first (fields_given given params ofs) []) s
         (with_types first (kinds_given s ofs) names)
 
-  -- Where what is known round a body fits, and the regions of its region parameters may be used, it begins
-  -- so.
+  -- Where what is known round a body fits, and the regions of what stands for its type parameters may be used,
+  -- it begins so.
   abbrev pub BodiesBegin : Type 0
   BodiesBegin =
       (outside : Outside) (generics : List (Constrained Bytes)) (header : Header Bytes) (scope : Scope)
@@ -64,5 +65,6 @@ module _ (types : Types) (owner : ClosedType → Option (List ℕ)) {I K : Type 
       → (active : ℕ → Bool) (first : ℕ) (s : Bindings) (names : ℕ → Meaning) → Stands s
       → ((name : List ℕ) → IsRegionName [] (parameters (generics_in outside generics)) name
       → InScope active (region_for (value_of name s) name))
+      → TypesAreUsable active (parameters (generics_in outside generics)) s
       → BodyBegins active first s names
       (outer_scope outside (generics_in outside generics)) header.parameters scope

@@ -18,6 +18,7 @@ use Rattle.au_closed_trees.specs.TypeNames.{type_names}
 use Rattle.au_known_types.specs.Known.{ValuesAreKnown}
 use Rattle.au_running_lives.specs.Known.{InScope}
 use Rattle.au_judged_bodies.specs.StandingTypesStanding.{StandsFor}
+use Rattle.au_judged_bodies.specs.Frames.{TypesAreUsable}
 
 -- What stands for the regions among type parameters may be used.
 abbrev pub RegionsStand : (ℕ → Bool) → List Parameter → Bindings → Type 0
@@ -35,7 +36,8 @@ pub record IsPut (heads : List (DeclAt × Head)) (params : List Parameter) (regi
   pub fixes : (t : Meaning) → IsWritten [] inner t → Fixes put t
 
 -- What a call puts, where the caller runs, stands for the type parameters of what is called; and the regions
--- that it puts may be used where those in scope and that of the whole expression may.
+-- that it puts, and those in the types that it puts, may be used where those in scope, those in what stands
+-- for the caller's type parameters and that of the whole expression may.
 abbrev pub CalleesStand : Type 0
 CalleesStand =
     (heads : List (DeclAt × Head)) (params : List Parameter) (regions : List Bytes) (given : Given)
@@ -45,4 +47,5 @@ CalleesStand =
     → StandsFor heads inner (given_by given put (type_names inner)) (called s z put)
     × ((active : ℕ → Bool) → active z ≡ true
     → ((name : List ℕ) → IsRegionName regions params name → InScope active (region_for (value_of name s) name))
-    → RegionsStand active inner (called s z put))
+    → RegionsStand active inner (called s z put)
+    × (TypesAreUsable active params s → TypesAreUsable active inner (called s z put)))

@@ -2,13 +2,15 @@
 -- names there is what the rules say, where the function's names stand for what the frame puts for them.
 use Rattle.std.specs.Prelude.{◌≡◌, ℕ, Bool, true, false, List, map, Some, None}
 use Rattle.au_syntax.specs.Plain.{Bytes}
+use Rattle.au_types.specs.declared.parameters.Parameter.{Parameter}
 use Rattle.au_types.specs.declared.types.Region.{Region}
-use Rattle.au_types.specs.Types.{Meaning, reads}
+use Rattle.au_types.specs.Types.{Meaning, Argument, Arguments, unit, truth, integer, text, parameter, named}
+use Rattle.au_types.specs.Types.{reads, writes, of_type, in_region, no_arguments, arguments}
 use Rattle.au_matching.specs.Bindings.{Bindings, value_of}
-use Rattle.au_matching.specs.Substituted.{region_for}
+use Rattle.au_matching.specs.Substituted.{region_for, type_for}
 use Rattle.au_type_texts.specs.Given.{Given, closed_under}
 use Rattle.au_running_types.specs.Running.{running}
-use Rattle.au_written_types.specs.Written.{IsRegionName}
+use Rattle.au_written_types.specs.Written.{IsRegionName, IsTypeName}
 use Rattle.au_memory.specs.Loans.{Types}
 use Rattle.au_memory.specs.Shown.{IsPlain}
 use Rattle.au_typing.specs.Lookups.{is_free_in, is_record, parameters_in, target_behind, variable_of}
@@ -23,6 +25,34 @@ use Rattle.au_running_lives.specs.Known.{InScope}
 -- a field with its closed type
 abbrev pub field_closed : Given → Typed → Field
 field_closed given one = record { name = one.name; of = closed_under given one.of }
+
+module _ (active : ℕ → Bool) where
+  abbrev mutual
+    -- each region in a running type may be used
+    pub IsUsable : Meaning → Type 0
+    IsUsable unit = Unit {0}
+    IsUsable truth = Unit {0}
+    IsUsable (integer kind) = Unit {0}
+    IsUsable text = Unit {0}
+    IsUsable (parameter name) = Unit {0}
+    IsUsable (named of args) = AreUsable args
+    IsUsable (reads to region) = IsUsable to × InScope active region
+    IsUsable (writes to region) = IsUsable to × InScope active region
+
+    -- so it is of an argument
+    pub IsUsableArgument : Argument → Type 0
+    IsUsableArgument (of_type t) = IsUsable t
+    IsUsableArgument (in_region region) = InScope active region
+
+    -- and of arguments
+    pub AreUsable : Arguments → Type 0
+    AreUsable no_arguments = Unit {0}
+    AreUsable (arguments one rest) = IsUsableArgument one × AreUsable rest
+
+-- What stands for type parameters is usable: so is each type over them, where its own regions are.
+abbrev pub TypesAreUsable : (ℕ → Bool) → List Parameter → Bindings → Type 0
+TypesAreUsable active params s =
+    (name : List ℕ) → IsTypeName params name → IsUsable active (type_for (value_of name s) name)
 
 module _ (types : Types) {I : Type 0} (see : View I Note (Unit {0})) (s : Bindings) (given : Given)
     (z : ℕ) where
@@ -60,3 +90,4 @@ module _ (types : Types) {I : Type 0} (see : View I Note (Unit {0})) (names : �
         → RecordIsSeen types see s given z t fields
     pub regions : (name : List ℕ) → IsRegionName sc.regions (parameters_in sc) name
         → InScope active (region_for (value_of name s) name)
+    pub within : TypesAreUsable active (parameters_in sc) s

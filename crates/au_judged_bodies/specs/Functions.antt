@@ -13,6 +13,7 @@ use Rattle.au_judged_types.specs.Bounds.{parameters}
 use Rattle.au_judged_types.specs.Meanings.{written_params}
 use Rattle.au_type_texts.specs.Given.{Given}
 use Rattle.au_type_texts.specs.Types.{ClosedType}
+use Rattle.au_running_types.specs.Running.{called as called_at}
 use Rattle.au_written_types.specs.Written.{IsRegionName}
 use Rattle.au_memory.specs.Loans.{Types}
 use Rattle.au_modules.specs.Programs.{ModuleParts}
@@ -31,10 +32,11 @@ use Rattle.au_known_types.specs.Known.{EachIsDeclared, IsDeclared}
 use Rattle.au_safe_steps.specs.Orders.{AreApart}
 use Rattle.au_running_lives.specs.Known.{InScope}
 use Rattle.au_judged_bodies.specs.StandingTypesStanding.{StandsFor}
+use Rattle.au_judged_bodies.specs.Frames.{TypesAreUsable}
 use Rattle.au_judged_bodies.specs.Rounds.{names_of}
 use Rattle.au_judged_bodies.specs.Callees.{IsPut}
 use Rattle.au_judged_bodies.specs.Sights.{CallIsSeen}
-use Rattle.au_judged_bodies.specs.Keys.{meant_in_body, ways}
+use Rattle.au_judged_bodies.specs.Keys.{ConstraintsHold, bounds_in_body, meant_in_body, ways}
 
 module _ (program : List ModuleParts) where
   -- written parameters of a body have these names and mean these types
@@ -45,10 +47,11 @@ module _ (program : List ModuleParts) where
   EachMeans body [] (one ∷ rest) = ⊥
   EachMeans body (w ∷ ws) [] = ⊥
 
-  -- A body is that of what is called by the rules: it has the type parameters, the parameters and the result
-  -- of this.
+  -- A body is that of what is called by the rules: it has the type parameters with their classes, the
+  -- parameters and the result of this.
   pub record IsBodyOf (body : BodyOf) (called : Callable) : Type 0 where
     pub over : written_params body.generics ≡ parameters called.generics
+    pub bounds : bounds_in_body program body ≡ called.generics
     pub takes : EachMeans body body.header.parameters called.parameters
     pub gives : meant_in_body program body body.header.result ≡ Some called.result
 
@@ -67,13 +70,14 @@ pub record BodyRuns (program : List ModuleParts) (params : List Parameter) (regi
   pub here : active z ≡ true
   pub opened : (name : List ℕ) → IsRegionName regions params name
       → InScope active (region_for (value_of name s) name)
+  pub within : TypesAreUsable active params s
 
 module _ (types : Types) (owner : ClosedType → Option (List ℕ)) (program : List ModuleParts)
     (trees : List NotedParts)
     (place : ℕ) (params : List Parameter) (regions : List Bytes) (given : Given) (s : Bindings) (z : ℕ)
     (active : ℕ → Bool) where
   -- A call of a name that means a function which isn't shipped, and whose body is that of what is called, is
-  -- seen to call it in one of its ways.
+  -- seen to call it in one of its ways, where the constraints of this hold.
   abbrev pub FunctionsAreSeen : Type 0
   FunctionsAreSeen =
       (note : Note) (name : Bytes) (target : Target) (d : Standing) (declared : Bytes) (called : Callable)
@@ -86,6 +90,7 @@ module _ (types : Types) (owner : ClosedType → Option (List ℕ)) (program : L
       → IsDeclaredWell program called
       → note.call ≡ Some put → note.of ≡ substituted put called.result
       → IsPut (heads_of program) params regions (parameters called.generics) put
+      → ConstraintsHold program called.generics (called_at s z put)
       → CallIsSeen types owner (view_under program trees place params given)
       (ways program trees) active s z note name
       called put

@@ -26,7 +26,7 @@ use Rattle.au_meaning.specs.Worlds.{Value}
 use Rattle.au_known_types.specs.Known.{IsKnown, ScopeIsKnown}
 use Rattle.au_safe_steps.specs.Orders.{AreApart}
 use Rattle.au_running_lives.specs.Known.{Callables, InScope}
-use Rattle.au_judged_bodies.specs.Frames.{FrameFits, RecordIsSeen, field_closed}
+use Rattle.au_judged_bodies.specs.Frames.{FrameFits, RecordIsSeen, TypesAreUsable, field_closed}
 use Rattle.au_judged_bodies.specs.TypedRunsLaws.{CallsRun}
 
 -- the names of fields
@@ -125,4 +125,5 @@ pub record PlaceFits (types : Types) (owner : ClosedType → Option (List ℕ)) 
   pub others : (name : Bytes) → variable_of sc name ≡ None → meaning.variable_of scope name ≡ None
   pub regions : (name : List ℕ) → IsRegionName sc.regions (parameters_in sc) name
       → InScope active (region_for (value_of name s) name)
+  pub within : TypesAreUsable active (parameters_in sc) s
   pub returns : (z : ℕ) → running s z sc.result ≡ result

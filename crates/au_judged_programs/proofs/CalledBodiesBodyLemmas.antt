@@ -24,7 +24,7 @@ use Rattle.au_types.specs.Types.{Meaning}
 use Rattle.au_judged_types.specs.Bounds.{Bounded, parameters}
 use Rattle.au_judged_types.specs.declared.reading.Meant.{Meant}
 use Rattle.au_judged_types.specs.declared.reading.Meant.TheVariants.{Are, Fails}
-use Rattle.au_judged_types.specs.Meanings.{generics_meant, written_params}
+use Rattle.au_judged_types.specs.Meanings.{class_meant, first_misfit, generics_meant, judged, written_params}
 use Rattle.au_judged_types.proofs.MeaningLemmas.{params_written}
 use Rattle.au_modules.specs.Programs.{Entry, ModuleParts}
 use Rattle.au_names.specs.declared.targets.Target.{Target}
@@ -42,20 +42,22 @@ use Rattle.au_judged_bodies.specs.TypeNames.{type_names}
 use Rattle.au_judged_bodies.specs.Bodies.{BodyOf, body_in, body_of, body_standing, defining_in, defining_index, noted_at}
 use Rattle.au_judged_bodies.specs.Leading.{a_function, called_of, module_name}
 use Rattle.au_closing_laws.specs.Premises.{AreOfParts, FunctionsAreShipped}
+use Rattle.au_closing_laws.specs.Targets.{bounds_in, bounds_of}
 use Rattle.au_closing_laws.proofs.DefinitionLemmas.{IsThere, listed_at, noted_there, stands_in}
+use Rattle.au_closing_laws.proofs.FunctionLemmas.{bounds_here, bounds_promised}
 use Rattle.au_judged_bodies.specs.Called.{callable, declared_callable, function_called}
 use Rattle.au_judged_bodies.specs.Scopes.{Callable, Typed}
 use Rattle.au_judged_bodies.specs.Trees.{NotedDeclaration, NotedParts, erase_declaration, erase_program}
 use Rattle.au_judged_bodies.specs.Written.{all_typed, meant_in, seen_in, typed, types_at}
 use Rattle.au_judged_bodies.proofs.LawfulLemmas.{followed_is}
-use Rattle.au_judged_bodies.specs.Keys.{meant_in_body}
+use Rattle.au_judged_bodies.specs.Keys.{bounds_in_body, meant_in_body}
 use Rattle.au_judged_bodies.specs.Functions.{EachMeans, IsBodyOf}
-use Rattle.au_judged_programs.specs.CalledBodiesBodies.{FunctionIsThere, is_function}
+use Rattle.au_judged_programs.specs.CalledBodiesBodies.{ConstraintsAreMeant, FunctionIsThere, is_function}
 
 -- ---- what is called
 
 -- it has these type parameters, parameters and result
-callable_has : (generics : List Bounded) (of : Option (Bytes × DeclAt)) (given : Option (List Typed))
+pub callable_has : (generics : List Bounded) (of : Option (Bytes × DeclAt)) (given : Option (List Typed))
     (result : Option Meaning) (c : Callable) → callable generics of given result ≡ Some c
     → (c.generics ≡ generics) × (given ≡ Some c.parameters) × (result ≡ Some c.result)
 callable_has generics of (Some given) (Some result) c e =
@@ -70,6 +72,7 @@ callable_has generics of (Some given) None c e = absurd (none-some c e)
 -- what is called means what is written
 record IsMeantAs (program : List ModuleParts) (d : Standing) (generics : List (Constrained Bytes)) (h : Header Bytes)
     (called : Callable) : Type 0 where
+  means : generics_meant (types_at program d.place d.part) (heads_of program) generics ≡ Are called.generics
   over : parameters called.generics ≡ written_params generics
   takes : all_typed program d (parameters called.generics) h.parameters ≡ Some called.parameters
   gives : meant_in program d (parameters called.generics) h.result ≡ Some called.result
@@ -87,6 +90,7 @@ meant_as program d generics h called e =
     by (Are all) is e =
         let its = callable_has all None (all_typed program d (parameters all) h.parameters)
         (meant_in program d (parameters all) h.result) called e in record {
+          means = is ∙ ap Are (sym its.0);
           over = ap parameters its.0
               ∙ params_written (types_at program d.place d.part) (heads_of program) generics all is;
           takes = ap (λ bs. all_typed program d (parameters bs) h.parameters) its.0 ∙ its.1;
@@ -95,12 +99,12 @@ meant_as program d generics h called e =
 
 -- ---- the body of a declaration
 
-abbrev written_function : PlainDeclaration → Option (List (Constrained Bytes) × Header Bytes)
+abbrev pub written_function : PlainDeclaration → Option (List (Constrained Bytes) × Header Bytes)
 written_function (function_body at generics h body stop) = Some (generics, h)
 written_function other = None
 
 -- a body with these type parameters and this header is there
-abbrev HasBody : List ModuleParts → List NotedParts → Target → ℕ → List (Constrained Bytes) → Header Bytes → Type 0
+abbrev pub HasBody : List ModuleParts → List NotedParts → Target → ℕ → List (Constrained Bytes) → Header Bytes → Type 0
 HasBody program trees target place generics h =
     (body : BodyOf) × (body_of program trees target ≡ Some body) × (body.place ≡ place) × (body.generics ≡ generics)
     × (body.header ≡ h)
@@ -155,7 +159,7 @@ module _ (sight : Sight) (generics : List (Constrained Bytes)) (h : Header Bytes
 
 module _ (program : List ModuleParts) (trees : List NotedParts) (erased : erase_program trees ≡ program)
     (target : Target) (d : Standing) (found : standing_at program target.at ≡ Some d) where
-  body_from : (index : ℕ) (m : ModuleParts) (says : PlainDeclaration) (generics : List (Constrained Bytes))
+  pub body_from : (index : ℕ) (m : ModuleParts) (says : PlainDeclaration) (generics : List (Constrained Bytes))
       (h : Header Bytes) → slice_get program d.place ≡ Some m → slice_get (declarations_in m.body) index ≡ Some says
       → written_function says ≡ Some (generics, h) → defining_index program d d.part ≡ Some index
       → HasBody program trees target d.place generics h
@@ -255,11 +259,12 @@ module _ (program : List ModuleParts) (d : Standing) (ps : List Parameter) (body
 
 is_body : (program : List ModuleParts) (d : Standing) (generics : List (Constrained Bytes)) (h : Header Bytes)
     (called : Callable) (body : BodyOf) → IsMeantAs program d generics h called
-    → written_params body.generics ≡ written_params generics
+    → written_params body.generics ≡ written_params generics → bounds_in_body program body ≡ called.generics
     → EachAlike program d (parameters called.generics) body h.parameters body.header.parameters
     → Alike program d (parameters called.generics) body h.result body.header.result → IsBodyOf program body called
-is_body program d generics h called body meant over takes gives = record {
+is_body program d generics h called body meant over bounds takes gives = record {
   over = over ∙ sym meant.over;
+  bounds = bounds;
   takes = each_means program d (parameters called.generics) body h.parameters body.header.parameters called.parameters
       takes meant.takes;
   gives = sym gives ∙ meant.gives;
@@ -267,66 +272,80 @@ is_body program d generics h called body meant over takes gives = record {
 
 module _ (program : List ModuleParts) (d : Standing) (generics : List (Constrained Bytes)) (h : Header Bytes)
     (called : Callable) (meant_so : IsMeantAs program d generics h called) (body : BodyOf) (place : body.place ≡ d.place)
-  where
-    -- the body of a function that stands in a body
-    own_body : d.part ≡ Body → body.generics ≡ generics → body.header ≡ h → IsBodyOf program body called
-    own_body part same header =
-        is_body program d generics h called body meant_so (ap written_params same)
-        (subst (λ (k : Header Bytes). EachAlike program d (parameters called.generics) body h.parameters k.parameters)
-        (sym header) (all_alike program d (parameters called.generics) body alike h.parameters))
-        (subst (λ (k : Header Bytes). Alike program d (parameters called.generics) body h.result k.result) (sym header)
-        (alike h.result))
-      where
-        alike : (t : WrittenType) → Alike program d (parameters called.generics) body t t
-        alike t =
-            ap (λ ps. meant [] ps (types_at program d.place d.part) (heads_of program) t)
-            (meant_so.over ∙ sym (ap written_params same))
-            ∙ ap (λ p. meant [] (written_params body.generics) (types_at program d.place p) (heads_of program) t) part
-            ∙ ap (λ n. meant [] (written_params body.generics) (types_at program n Body) (heads_of program) t) (sym place)
+    (none : first_misfit (class_meant (written_params body.generics) (types_at program body.place Body) (heads_of program))
+    body.generics ≡ None) where
+  -- the constraints of a body mean classes
+  scope_so : bounds_of program body ≡ called.generics → bounds_in_body program body ≡ called.generics
+  scope_so same = sym (ap (λ o. bounds_in (judged (bounds_in_body program body) o)) none) ∙ same
 
-    -- that of one that is promised
-    kept_body : (m : ModuleParts) (others : List (Constrained Bytes)) (its : Header Bytes)
-        → slice_get program d.place ≡ Some m → d.part ≡ Interface → body.generics ≡ others → body.header ≡ its
-        → Each (SameGeneric (sight_of program d.place m)) generics others
-        → SameSignature (sight_of program d.place m) (scope_of generics) (scope_of others) h its
-        → IsBodyOf program body called
-    kept_body m others its is part same header each signed =
-        is_body program d generics h called body meant_so
-        (ap written_params same ∙ sym (same_written (sight_of program d.place m) generics others each))
-        (subst (λ (k : Header Bytes). EachAlike program d (parameters called.generics) body h.parameters k.parameters)
-        (sym header) (all_so h.parameters its.parameters signed.0))
-        (subst (λ (k : Header Bytes). Alike program d (parameters called.generics) body h.result k.result) (sym header)
-        (alike h.result its.result signed.1))
-      where
-        alike : (t u : WrittenType)
-            → meant [] (scope_of generics) (sight_of program d.place m).interface (heads_of program) t
-            ≡ meant [] (scope_of others) (sight_of program d.place m).body (heads_of program) u
-            → Alike program d (parameters called.generics) body t u
-        alike t u e =
-            ap (λ ps. meant [] ps (types_at program d.place d.part) (heads_of program) t) meant_so.over
-            ∙ ap (λ p. meant [] (written_params generics) (types_at program d.place p) (heads_of program) t) part
-            ∙ ap (λ names. meant [] (written_params generics) names (heads_of program) t)
-            (seen_same program d.place m Interface is)
-            ∙ e
-            ∙ ap (λ names. meant [] (written_params others) names (heads_of program) u)
-            (sym (seen_same program d.place m Body is))
-            ∙ ap (λ gs. meant [] (written_params gs) (types_at program d.place Body) (heads_of program) u) (sym same)
-            ∙ ap (λ n. meant [] (written_params body.generics) (types_at program n Body) (heads_of program) u) (sym place)
+  means_at : (part : Part) → d.part ≡ part
+      → generics_meant (types_at program d.place part) (heads_of program) generics ≡ Are called.generics
+  means_at part is = subst
+      (λ p. generics_meant (types_at program d.place p) (heads_of program) generics ≡ Are called.generics) is
+      meant_so.means
 
-        all_so : (ws vs : List (Labelled Bytes))
-            → Each (SameLabelled (sight_of program d.place m) (scope_of generics) (scope_of others)) ws vs
-            → EachAlike program d (parameters called.generics) body ws vs
-        all_so [] [] alike_each = tt
-        all_so [] (v ∷ vs) alike_each = absurd alike_each
-        all_so (w ∷ ws) [] alike_each = absurd alike_each
-        all_so (w ∷ ws) (v ∷ vs) alike_each =
-            ((alike_each.0.0, alike w.of v.of alike_each.0.1), all_so ws vs alike_each.1)
+  -- the body of a function that stands in a body
+  own_body : d.part ≡ Body → body.generics ≡ generics → body.header ≡ h → IsBodyOf program body called
+  own_body part same header =
+      is_body program d generics h called body meant_so (ap written_params same)
+      (scope_so (bounds_here program body d.place place generics called.generics same (means_at Body part)))
+      (subst (λ (k : Header Bytes). EachAlike program d (parameters called.generics) body h.parameters k.parameters)
+      (sym header) (all_alike program d (parameters called.generics) body alike h.parameters))
+      (subst (λ (k : Header Bytes). Alike program d (parameters called.generics) body h.result k.result) (sym header)
+      (alike h.result))
+    where
+      alike : (t : WrittenType) → Alike program d (parameters called.generics) body t t
+      alike t =
+          ap (λ ps. meant [] ps (types_at program d.place d.part) (heads_of program) t)
+          (meant_so.over ∙ sym (ap written_params same))
+          ∙ ap (λ p. meant [] (written_params body.generics) (types_at program d.place p) (heads_of program) t) part
+          ∙ ap (λ n. meant [] (written_params body.generics) (types_at program n Body) (heads_of program) t) (sym place)
+
+  -- that of one that is promised
+  kept_body : (m : ModuleParts) (others : List (Constrained Bytes)) (its : Header Bytes)
+      → slice_get program d.place ≡ Some m → d.part ≡ Interface → body.generics ≡ others → body.header ≡ its
+      → Each (SameGeneric (sight_of program d.place m)) generics others
+      → SameSignature (sight_of program d.place m) (scope_of generics) (scope_of others) h its
+      → IsBodyOf program body called
+  kept_body m others its is part same header each signed =
+      is_body program d generics h called body meant_so
+      (ap written_params same ∙ sym (same_written (sight_of program d.place m) generics others each))
+      (scope_so (bounds_promised program body d.place place m generics others called.generics is same each
+      (means_at Interface part) none))
+      (subst (λ (k : Header Bytes). EachAlike program d (parameters called.generics) body h.parameters k.parameters)
+      (sym header) (all_so h.parameters its.parameters signed.0))
+      (subst (λ (k : Header Bytes). Alike program d (parameters called.generics) body h.result k.result) (sym header)
+      (alike h.result its.result signed.1))
+    where
+      alike : (t u : WrittenType)
+          → meant [] (scope_of generics) (sight_of program d.place m).interface (heads_of program) t
+          ≡ meant [] (scope_of others) (sight_of program d.place m).body (heads_of program) u
+          → Alike program d (parameters called.generics) body t u
+      alike t u e =
+          ap (λ ps. meant [] ps (types_at program d.place d.part) (heads_of program) t) meant_so.over
+          ∙ ap (λ p. meant [] (written_params generics) (types_at program d.place p) (heads_of program) t) part
+          ∙ ap (λ names. meant [] (written_params generics) names (heads_of program) t)
+          (seen_same program d.place m Interface is)
+          ∙ e
+          ∙ ap (λ names. meant [] (written_params others) names (heads_of program) u)
+          (sym (seen_same program d.place m Body is))
+          ∙ ap (λ gs. meant [] (written_params gs) (types_at program d.place Body) (heads_of program) u) (sym same)
+          ∙ ap (λ n. meant [] (written_params body.generics) (types_at program n Body) (heads_of program) u) (sym place)
+
+      all_so : (ws vs : List (Labelled Bytes))
+          → Each (SameLabelled (sight_of program d.place m) (scope_of generics) (scope_of others)) ws vs
+          → EachAlike program d (parameters called.generics) body ws vs
+      all_so [] [] alike_each = tt
+      all_so [] (v ∷ vs) alike_each = absurd alike_each
+      all_so (w ∷ ws) [] alike_each = absurd alike_each
+      all_so (w ∷ ws) (v ∷ vs) alike_each =
+          ((alike_each.0.0, alike w.of v.of alike_each.0.1), all_so ws vs alike_each.1)
 
 -- ---- functions
 
 module _ (program : List ModuleParts) (trees : List NotedParts) (erased : erase_program trees ≡ program)
-    (promises : AllFulfil program) (parts : AreOfParts program) (shipped : FunctionsAreShipped program) (target : Target)
-    (d : Standing) (called : Callable) (found : standing_at program target.at ≡ Some d) where
+    (promises : AllFulfil program) (parts : AreOfParts program) (shipped : FunctionsAreShipped program)
+    (meant_all : ConstraintsAreMeant program trees) (target : Target) (d : Standing) (called : Callable) (found : standing_at program target.at ≡ Some d) where
   abbrev There : Type 0
   There = FunctionIsThere program trees target d called
 
@@ -351,8 +370,11 @@ module _ (program : List ModuleParts) (trees : List NotedParts) (erased : erase_
         by (m, is, inr its) =
             let has = body_from program trees erased target d found d.index m d.says generics h
             (ap (slice_get program) its.0 ∙ is) its.2 (ap written_function says)
-            (ap (defining_index program d) its.1) in
-            (has.0, has.1, own_body program d generics h called meant_so has.0 has.2 its.1 has.3 has.4)
+            (ap (defining_index program d) its.1) in (
+              has.0,
+              has.1,
+              own_body program d generics h called meant_so has.0 has.2 (meant_all target has.0 has.1) its.1 has.3 has.4,
+            )
 
     promised : (at : Pos) → d.says ≡ function at generics h → Stands h.name.name
     promised at says none = by (stands_in program target.at d found)
@@ -375,7 +397,8 @@ module _ (program : List ModuleParts) (trees : List NotedParts) (erased : erase_
             let has = kept.2 in (
               has.0,
               has.1,
-              kept_body program d generics h called meant_so has.0 has.2 m kept.0 kept.1 at_place its.1 has.3 has.4
+              kept_body program d generics h called meant_so has.0 has.2 (meant_all target has.0 has.1) m kept.0 kept.1
+                  at_place its.1 has.3 has.4
                   kept.3 kept.4,
             )
 

@@ -1,5 +1,6 @@
 -- Good calls in a body, by what they call.
-use Rattle.std.proofs.Common.{◌≡◌, ℕ, Bool, true, List, Option, None, Some, refl, sym, ap, subst}
+use Rattle.std.proofs.Common.{◌≡◌, ℕ, Bool, true, List, [], Option, None, Some, refl, sym, ap, ◌∙◌, subst}
+use Rattle.std.specs.Option.{option_map}
 use Rattle.std.proofs.lemmas.Option.{none-some}
 use Rattle.au_shipped.specs.declared.prims.ShippedCall.{ShippedCall}
 use Rattle.au_shipped.specs.Calls.{prim_of}
@@ -9,9 +10,15 @@ use Rattle.au_syntax.specs.Modules.{instance, constant_body, function_body, inst
 use Rattle.au_syntax.specs.Plain.{Bytes, PlainDeclaration}
 use Rattle.au_types.specs.declared.spaces.Space.TheVariants.{Callables}
 use Rattle.au_types.specs.Tables.{find}
-use Rattle.au_types.specs.Types.{Meaning}
-use Rattle.au_matching.specs.Bindings.{Bindings}
+use Rattle.au_types.specs.Types.{Argument, Meaning, in_region, of_type}
+use Rattle.au_matching.specs.Bindings.{Bindings, value_of}
+use Rattle.au_matching.proofs.LawLemmas.{well_formed_stands}
 use Rattle.au_judged_types.specs.Bounds.{Bounded, parameters}
+use Rattle.au_instances.specs.Instances.{Holds}
+use Rattle.au_instances.specs.Pairs.{constraints_of}
+use Rattle.au_classes.specs.Rows.{rows_of}
+use Rattle.au_running_types.specs.Running.{argument_running, called as called_at, running}
+use Rattle.au_running_types.proofs.NameLemmas.{callees_run}
 use Rattle.au_type_texts.specs.Given.{Given}
 use Rattle.au_modules.specs.Programs.{ModuleParts}
 use Rattle.au_names.specs.declared.targets.Target.{Target}
@@ -19,7 +26,7 @@ use Rattle.au_names.specs.HeadsOf.{heads_of}
 use Rattle.au_names.specs.Standing.{Standing, standing_at, whole_name}
 use Rattle.au_judged_bodies.specs.Leading.{module_name}
 use Rattle.au_judged_bodies.specs.Called.{callable_at, callable_standing, declared_callable}
-use Rattle.au_judged_bodies.specs.Calls.{GoodCall, Shown}
+use Rattle.au_judged_bodies.specs.Calls.{GoodCall, Shown, wanted_of}
 use Rattle.au_judged_bodies.specs.Notes.{Note}
 use Rattle.au_judged_bodies.specs.Outsides.{outside_of}
 use Rattle.au_judged_bodies.specs.Scopes.{Outside, Scope, Typed, Variable}
@@ -40,8 +47,9 @@ use Rattle.au_judged_bodies.specs.Sights.{CallIsSeen}
 use Rattle.au_judged_bodies.proofs.ArgumentLemmas.{seen_run}
 use Rattle.au_judged_bodies.proofs.MakerLemmas.{maker_seen}
 use Rattle.au_judged_bodies.specs.Functions.{BodyRuns, IsDeclaredWell}
-use Rattle.au_judged_bodies.specs.Keys.{ways}
+use Rattle.au_judged_bodies.specs.Keys.{ConstraintsHold, ways}
 use Rattle.au_judged_bodies.proofs.FunctionLemmas.{function_seen}
+use Rattle.au_judged_programs.proofs.HoldLemmas.{constraint_wanted, held_here, holds_run, known_holds}
 use Rattle.au_judged_programs.specs.CalledBodiesBodies.{FunctionIsThere, is_function}
 use Rattle.au_judged_programs.proofs.CalledBodiesBodyLemmas.{function_there}
 use Rattle.au_judged_programs.specs.Programs.{OthersAreSeen, ProgramFits, has_headers, is_class}
@@ -49,7 +57,7 @@ use Rattle.au_judged_programs.specs.Programs.{OthersAreSeen, ProgramFits, has_he
 module _ (program : List ModuleParts) (trees : List NotedParts) (place : ℕ) (generics : List Bounded) (given : Given)
     (fits : ProgramFits program trees) (others : OthersAreSeen program trees place generics given)
     (names : ℕ → Meaning) (active : ℕ → Bool) (scope : meaning.Scope) (s : Bindings) (z : ℕ)
-    (stands : StandsFor (heads_of program) (parameters generics) given s) where
+    (stands : StandsFor (heads_of program) (parameters generics) given s) (holds : ConstraintsHold program generics s) where
   abbrev Frame : Scope → Type 0
   Frame sc =
       FrameFits (types_of program) (view_under program trees place (parameters generics) given) names active sc scope s
@@ -72,7 +80,7 @@ module _ (program : List ModuleParts) (trees : List NotedParts) (place : ℕ) (g
 
     module _ (frame : Frame here) where
       runs : BodyRuns program (parameters generics) regions given s z active
-      runs = record { stands = stands; here = frame.here; opened = frame.regions }
+      runs = record { stands = stands; here = frame.here; opened = frame.regions; within = frame.within }
 
       module _ (note : Note) (name : Bytes) (takes : List Typed → Option (List Meaning)) (args : List Shown)
           (good : GoodCall here note name takes args) (mode : ModeIsKnownIn here note.mode)
@@ -84,6 +92,29 @@ module _ (program : List ModuleParts) (trees : List NotedParts) (place : ℕ) (g
 
         noted : note.call ≡ Some good.ends
         noted = ap (λ (n : Note). n.call) good.is_noted
+
+        -- the constraints of what is called hold
+        holds_called : ConstraintsHold program good.called.generics (called_at s z good.ends)
+        holds_called p wanted value c e =
+            by (value_of p good.ends) refl (sym (callees_run s good.ends z p) ∙ e)
+          where
+            at : (x : Meaning) → value_of p good.ends ≡ Some (of_type x)
+                → Holds (rows_of program) (heads_of program) [] [] wanted (running s z x)
+            at x is =
+                holds_run (rows_of program) (heads_of program) fits.table (parameters generics) (constraints_of generics) s z
+                stands.formed (known_holds program generics s holds) wanted x
+                (held_here here fits.table good.ends (wanted_of good.called) good.all_hold p wanted x is
+                (constraint_wanted good.called p wanted c))
+                (well_formed_stands (heads_of program) (parameters generics) x (known.values p (of_type x) is).0)
+
+            by : (o : Option Argument) → value_of p good.ends ≡ o
+                → option_map (argument_running s z) o ≡ Some (of_type value)
+                → Holds (rows_of program) (heads_of program) [] [] wanted value
+            by None is same = absurd (none-some (of_type value) same)
+            by (Some (of_type x)) is same =
+                let value_is : running s z x ≡ value = cc in
+                subst (Holds (rows_of program) (heads_of program) [] [] wanted) value_is (at x is)
+            by (Some (in_region r)) is same = absurd cc
 
         puts : IsPut (heads_of program) (parameters generics) regions (parameters good.called.generics) good.ends
         puts = record { values = known.values; fit = known.fit; fixes = known.fixes }
@@ -107,9 +138,9 @@ module _ (program : List ModuleParts) (trees : List NotedParts) (place : ℕ) (g
                   let its = there.stands none in
                   function_seen (types_of program) (owner_of program) program trees place (parameters generics) regions
                   given s z active runs note name target d there.declared good.called good.ends its.0 means found there.leads
-                  none its.1 its.2 (well headers) noted (ap (λ (n : Note). n.of) good.is_noted) puts
+                  none its.1 its.2 (well headers) noted (ap (λ (n : Note). n.of) good.is_noted) puts holds_called
               by (Some prim) is =
-                  (others regions s z active runs).0 note name target d good.called good.ends there.declared prim there.leads
+                  (others regions s z active runs holds).0 note name target d good.called good.ends there.declared prim there.leads
                   is means found declared (well headers) noted (ap (λ (n : Note). n.of) good.is_noted) puts
 
           by_maker : (type : Bytes) → whole_name d.says ≡ Some type → Seen
@@ -123,13 +154,13 @@ module _ (program : List ModuleParts) (trees : List NotedParts) (place : ℕ) (g
           by_says : (says : PlainDeclaration) → d.says ≡ says
               → declared_callable program d target.at target.name says ≡ Some good.called → Seen
           by_says (function at gs h) is e =
-              by_function (ap has_headers is) (function_there program trees fits.erased fits.kept fits.parts fits.shipped target d good.called
+              by_function (ap has_headers is) (function_there program trees fits.erased fits.kept fits.parts fits.shipped fits.meant target d good.called
               found (ap is_function is) declared)
           by_says (function_body at gs h block stop) is e =
-              by_function (ap has_headers is) (function_there program trees fits.erased fits.kept fits.parts fits.shipped target d good.called
+              by_function (ap has_headers is) (function_there program trees fits.erased fits.kept fits.parts fits.shipped fits.meant target d good.called
               found (ap is_function is) declared)
           by_says (class at n p methods) is e =
-              (others regions s z active runs).1 note name target d good.called good.ends (ap is_class is)
+              (others regions s z active runs holds).1 note name target d good.called good.ends (ap is_class is)
               (here, refl, refl, good.all_hold) means found
               declared (well (ap has_headers is)) noted (ap (λ (n : Note). n.of) good.is_noted) puts
           by_says (record_type at n ps u fields) is e = by_maker n.name (ap whole_name is)
@@ -165,15 +196,15 @@ pub all_run : (program : List ModuleParts) (trees : List NotedParts) (place : �
     → ProgramFits program trees → OthersAreSeen program trees place generics given
     → (names : ℕ → Meaning) (active : ℕ → Bool) (sc : Scope) (scope : meaning.Scope) (s : Bindings) (z : ℕ)
     → sc.outside ≡ outside_of program place Body → sc.generics ≡ generics
-    → StandsFor (heads_of program) (parameters generics) given s
+    → StandsFor (heads_of program) (parameters generics) given s → ConstraintsHold program generics s
     → FrameFits (types_of program) (view_under program trees place (parameters generics) given) names active sc scope s
     given z
     → CallsRun (types_of program) (owner_of program) (view_under program trees place (parameters generics) given)
     (ways program trees) names active sc scope s given z
-all_run program trees place generics given fits others names active sc scope s z outside over stands frame =
+all_run program trees place generics given fits others names active sc scope s z outside over stands holds frame =
     subst (λ (gs : List Bounded). Goes (in_scope sc.outside gs)) (sym over)
     (subst (λ (o : Outside). Goes (in_scope o generics)) (sym outside)
-    (λ f. here_run program trees place generics given fits others names active scope s z stands sc.result sc.regions
+    (λ f. here_run program trees place generics given fits others names active scope s z stands holds sc.result sc.regions
     sc.variables f)) frame
   where
     in_scope : Outside → List Bounded → Scope
@@ -186,5 +217,5 @@ all_run program trees place generics given fits others names active sc scope s z
     }
 
     Goes : Scope → Type 0
-    Goes x = Frame program trees place generics given fits others names active scope s z stands x
-        → Runs program trees place generics given fits others names active scope s z stands x
+    Goes x = Frame program trees place generics given fits others names active scope s z stands holds x
+        → Runs program trees place generics given fits others names active scope s z stands holds x

@@ -22,6 +22,8 @@ use Rattle.au_names.specs.Owned.{declarations_in}
 use Rattle.au_names.specs.Standing.{Standing}
 use Rattle.au_closing_laws.proofs.DefinitionLemmas.{IsThere, stands_in}
 use Rattle.au_closing_laws.proofs.FactLemmas.{functions_hold, parts_hold}
+use Rattle.au_closing_laws.proofs.GenericsLemmas.{misfit_none}
+use Rattle.au_closing_laws.proofs.TableLemmas.{good_table}
 use Rattle.au_judged_bodies.specs.Called.{callable, declared_callable, function_called, is_method, method_called, unconstrained}
 use Rattle.au_judged_bodies.specs.Scopes.{Callable, Typed}
 use Rattle.au_judged_bodies.specs.Trees.{NotedParts}
@@ -136,4 +138,6 @@ module _ (program : List ModuleParts) (trees : List NotedParts) (checked : IsChe
     headers = λ target d called found is declared.
         headers_apart program d target.at target.name called d.says is declared
         (parameters_apart target.at d (stands_in program target.at d found));
+    meant = λ target body there. misfit_none program trees checked.declared checked.derives target body there;
+    table = good_table program checked.instances;
   }

@@ -12,7 +12,7 @@ use Rattle.au_syntax.specs.Types.{Labelled, WrittenType}
 use Rattle.au_types.specs.declared.headings.Head.{Head}
 use Rattle.au_types.specs.declared.types.DeclAt.{DeclAt}
 use Rattle.au_types.specs.Meant.{meant}
-use Rattle.au_types.specs.Types.{Meaning, named, no_arguments}
+use Rattle.au_types.specs.Types.{Meaning, named, no_arguments, of_type}
 use Rattle.au_types.specs.Universes.{universe_in}
 use Rattle.au_judged_types.specs.Meanings.{written_params}
 use Rattle.au_type_texts.specs.Given.{closed_or_unit, closed_under}
@@ -32,6 +32,7 @@ use Rattle.au_judged_bodies.specs.StandingTypesStanding.{StandsFor}
 use Rattle.au_owners.specs.Owners.{owner_of}
 use Rattle.au_judged_programs.specs.CheckedChecked.{IsChecked}
 use Rattle.au_judged_programs.specs.Judged.{CallsRunInBodies}
+use Rattle.au_judged_bodies.specs.Frames.{TypesAreUsable}
 use Rattle.au_judged_bodies.specs.Keys.{Key, meant_in_body, meant_or_unit, ways, written_running}
 use Rattle.au_judged_bodies.specs.Tables.{has_text, root_text, types_of}
 use Rattle.au_safe_steps.specs.Beginning.{IsExitOf}
@@ -83,10 +84,13 @@ module _ (program : List ModuleParts) (noted : List NotedParts) (checked : IsChe
     s = [];
     stands = subst (λ (gs : List (Constrained Bytes)). StandsFor (heads_of program) (written_params gs) [] [])
         (sym has.none) (none_stand (heads_of program));
+    holds = λ name class value c e. absurd (none-some (of_type value) e);
     tokens = [];
     regions = λ active are name is.
         absurd (none-some Region
         (subst (λ (gs : List (Constrained Bytes)). universe_in (written_params gs) name ≡ Some Region) has.none is));
+    within = λ active are. subst (λ (gs : List (Constrained Bytes)). TypesAreUsable active (written_params gs) [])
+        (sym has.none) (λ name is. absurd (true≢false (sym is)));
   }
 
   meant_so : (t : WrittenType) (o : Option Meaning) → meant [] [] names (heads_of program) t ≡ o

@@ -42,6 +42,7 @@ use Rattle.au_judged_bodies.proofs.KnownLemmas.{writes_parts}
 use Rattle.au_judged_bodies.proofs.NotedLemmas.{written_known}
 use Rattle.au_judged_bodies.proofs.StandingTypesStandLemmas.{free_runs}
 use Rattle.au_judged_bodies.specs.Besides.{BesidesAll}
+use Rattle.au_judged_bodies.specs.Frames.{TypesAreUsable}
 use Rattle.au_judged_bodies.specs.Begun.{AreMeant, kinds_given}
 use Rattle.au_judged_bodies.specs.Tables.{types_of}
 use Rattle.au_judged_programs.specs.RoundProgramsBodies.{CallsRunHere}
@@ -122,6 +123,9 @@ module _ (program : List ModuleParts) (noted : List NotedParts) (owner : ClosedT
   opened active are name (inr is) =
       key.regions active are name (subst (λ ps. universe_in ps name ≡ Some universes.Region) alike is)
 
+  within : (active : ℕ → Bool) → AreActive active key.tokens → TypesAreUsable active (parameters generics) key.s
+  within active are = subst (λ ps. TypesAreUsable active ps key.s) (sym alike) (key.within active are)
+
   -- ---- what is written in its header
 
   meant_here : (t : WrittenType) (of : Meaning) → written_type outer t ≡ Ok of
@@ -192,7 +196,7 @@ module _ (program : List ModuleParts) (noted : List NotedParts) (owner : ClosedT
     runs_at active are =
         body_runs program noted key.body given owner (ways program noted) checked good.0.body
         (constants_of_programs_stand program noted checked key.body.place generics given) calls loose active
-        (first key.one) key.s (λ k. unit) stands (opened active are) besides
+        (first key.one) key.s (λ k. unit) (stands, key.holds) (opened active are) (within active are) besides
 
     abbrev Run : (ℕ → Bool) → List Parameter → List Meaning → Meaning → Type 0
     Run active ps kinds result =

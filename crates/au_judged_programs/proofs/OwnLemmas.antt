@@ -36,7 +36,7 @@ use Rattle.au_closing_laws.proofs.HeadLemmas.{numbered_among, standing_numbered}
 use Rattle.au_closing_laws.proofs.OnceLemmas.{module_new, nothing}
 use Rattle.au_closing_laws.proofs.OnceLemmas.{role_of, said, two_types}
 
-ordered : (i j : ℕ) → (i < j) ⊎ ((i ≡ j) ⊎ (j < i))
+pub ordered : (i j : ℕ) → (i < j) ⊎ ((i ≡ j) ⊎ (j < i))
 ordered zero zero = inr (inl refl)
 ordered zero (suc j) = inl (omega arith)
 ordered (suc i) zero = inr (inr (omega arith))

@@ -1,7 +1,8 @@
 -- What is known round a body of a checked program, put together.
-use Rattle.std.proofs.Common.{◌≡◌, ℕ, true, true≢false, List, map, Option, None, Some, refl, sym}
-use Rattle.std.proofs.Common.{subst}
+use Rattle.std.proofs.Common.{◌≡◌, ℕ, Bool, true, false, true≢false, cond, List, [], map, Option, None, Some, refl, sym}
+use Rattle.std.proofs.Common.{◌∙◌, subst}
 use Rattle.std.specs.Prelude.{slice_get}
+use Rattle.std.specs.Str.{bytes_eq}
 use Rattle.std.proofs.lemmas.Bool.{and_parts}
 use Rattle.std.proofs.lemmas.Option.{none-some}
 use Rattle.au_base.proofs.OptionLemmas.{map_some}
@@ -11,11 +12,16 @@ use Rattle.au_syntax.specs.Types.{Labelled}
 use Rattle.au_types.specs.declared.headings.Head.{Head}
 use Rattle.au_types.specs.declared.parameters.Parameter.{Parameter}
 use Rattle.au_types.specs.declared.types.DeclAt.{DeclAt}
+use Rattle.au_types.specs.declared.types.Region.{Region}
 use Rattle.au_types.specs.Rows.{head_of}
-use Rattle.au_types.specs.Types.{Meaning, Arguments, named}
-use Rattle.au_matching.specs.Bindings.{Bindings}
+use Rattle.au_types.specs.Types.{Meaning, Arguments, in_region, named, of_type}
+use Rattle.au_matching.specs.Bindings.{Bindings, value_of, with_pair}
+use Rattle.au_matching.proofs.BindingLemmas.{value_of-with}
 use Rattle.au_matching.specs.Forming.{all_fit, all_formed, fit_row, fits, is_formed}
 use Rattle.au_judged_types.specs.Bounds.{Bounded, parameters}
+use Rattle.au_instances.specs.Instances.{Holds}
+use Rattle.au_classes.specs.Rows.{rows_of}
+use Rattle.au_running_types.specs.Running.{token}
 use Rattle.au_type_texts.specs.Given.{Given}
 use Rattle.au_type_texts.specs.Types.{ClosedType}
 use Rattle.au_modules.specs.Programs.{ModuleParts}
@@ -42,11 +48,12 @@ use Rattle.au_judged_bodies.proofs.StandingTypesStandLemmas.{free_runs, reader_f
 use Rattle.au_judged_bodies.proofs.SeenLemmas.{union_case}
 use Rattle.au_judged_bodies.specs.Views.{DefinitionsAreApart, EachCaseIsKnown}
 use Rattle.au_judged_bodies.proofs.ViewLemmas.{record_viewed, union_viewed}
+use Rattle.au_judged_bodies.specs.Keys.{ConstraintsHold}
 use Rattle.au_judged_bodies.specs.Rounds.{RoundFits}
 use Rattle.au_judged_programs.specs.CheckedChecked.{IsChecked}
 use Rattle.au_judged_programs.proofs.DefinitionLemmas.{definitions_fit}
 use Rattle.au_judged_programs.proofs.FitLemmas.{declarations_fit, definitions_apart}
-use Rattle.au_judged_programs.specs.RoundProgramsBodies.{CallsRunHere, ConstantsStand}
+use Rattle.au_judged_programs.specs.RoundProgramsBodies.{AreGoodHere, CallsRunHere, ConstantsStand}
 
 -- ---- the fields of cases are known
 
@@ -96,6 +103,20 @@ module _ (program : List ModuleParts) (fit : DefinitionsFit program) (params : L
             its.1 its.2
     cases_known place other cases whole e tag one there = absurd (none-some cases e)
 
+-- ---- constraints
+
+-- constraints still hold where a region is opened
+constraints_kept : (program : List ModuleParts) (generics : List Bounded) (region : Bytes) (to : Region) (s : Bindings)
+    → ConstraintsHold program generics s → ConstraintsHold program generics (with_pair region (in_region to) s)
+constraints_kept program generics region to s holds name class value c e =
+    by (bytes_eq name region) refl (sym (value_of-with name region (in_region to) s) ∙ e)
+  where
+    by : (b : Bool) → bytes_eq name region ≡ b
+        → cond b (Some (in_region to)) (value_of name s) ≡ Some (of_type value)
+        → Holds (rows_of program) (heads_of program) [] [] class value
+    by true is e = absurd cc
+    by false is e = holds name class value c e
+
 -- ---- what is known round a body
 
 module _ (program : List ModuleParts) (noted : List NotedParts) (place : ℕ) (generics : List Bounded) (given : Given)
@@ -103,24 +124,28 @@ module _ (program : List ModuleParts) (noted : List NotedParts) (place : ℕ) (g
   pub round_fits : IsChecked program noted → ConstantsStand program noted place generics given
       → CallsRunHere program noted place generics given owner known
       → RoundFits (types_of program) owner (view_under program noted place (parameters generics) given) known
-      (outside_of program place Body) generics given (StandsFor (heads_of program) (parameters generics) given)
+      (outside_of program place Body) generics given (AreGoodHere program noted place generics given)
   round_fits checked constants calls = record {
     noted = λ n. refl;
     readers = λ t region. reader_free program t region;
-    free = λ s regions z t stands whole free. free_runs program (parameters generics) regions given s z t stands whole free;
+    free = λ s regions z t stands whole free. free_runs program (parameters generics) regions given s z t stands.0 whole free;
     copied = λ s regions z n stands whole free.
-        free_runs program (parameters generics) regions given s z n.of stands whole free;
+        free_runs program (parameters generics) regions given s z n.of stands.0 whole free;
     constants = λ s z name t n stands e. constants.values s z name t n e;
     wholes = λ name t e. constants.wholes name t e;
     records = λ s regions z t fields stands whole e.
-        record_viewed program noted fit apart place (parameters generics) regions given s z stands t fields whole
+        record_viewed program noted fit apart place (parameters generics) regions given s z stands.0 t fields whole
         (outside.fields (parameters generics) regions t fields e whole) e;
     unions = λ s regions z t cases stands whole e.
-        union_viewed program noted fit apart place (parameters generics) regions given s z stands t cases whole
-        (cases_known program fit (parameters generics) regions given s stands place t cases whole e) e;
+        union_viewed program noted fit apart place (parameters generics) regions given s z stands.0 t cases whole
+        (cases_known program fit (parameters generics) regions given s stands.0 place t cases whole e) e;
     last = λ t fields e last i one is. fields_last program place t fields e last i one is;
-    opens = λ s region z stands new. region_opens (heads_of program) (parameters generics) given s region z stands new;
-    calls = λ names active sc scope s z same alike stands fits. calls names active sc scope s z same alike stands fits;
+    opens = λ s region z stands new. (
+      region_opens (heads_of program) (parameters generics) given s region z stands.0 new,
+      constraints_kept program generics region (token z) s stands.1,
+    );
+    calls = λ names active sc scope s z same alike stands fits.
+        calls names active sc scope s z same alike stands.0 stands.1 fits;
   }
     where
       fit : DefinitionsFit program

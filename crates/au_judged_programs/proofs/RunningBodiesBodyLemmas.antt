@@ -40,13 +40,13 @@ use Rattle.au_known_programs.proofs.OutsideLemmas.{meant_parameters, outside_kno
 use Rattle.au_running_types.specs.Running.{running}
 use Rattle.au_judged_bodies.specs.Blocks.{with_types}
 use Rattle.au_judged_bodies.specs.Known.{Callables, InScope}
-use Rattle.au_judged_bodies.specs.StandingTypesStanding.{StandsFor}
 use Rattle.au_judged_bodies.specs.Besides.{BesidesAll}
+use Rattle.au_judged_bodies.specs.Frames.{TypesAreUsable}
 use Rattle.au_judged_bodies.specs.Rounds.{PlaceFits}
 use Rattle.au_judged_bodies.proofs.BlockLemmas.{all_run}
 use Rattle.au_judged_bodies.specs.Begun.{AreMeant, BodyBegins, fields_given, kinds_given}
 use Rattle.au_judged_bodies.proofs.TypedBodiesBodyLemmas.{body_begins}
-use Rattle.au_judged_programs.specs.RoundProgramsBodies.{CallsRunHere, ConstantsStand}
+use Rattle.au_judged_programs.specs.RoundProgramsBodies.{AreGoodHere, CallsRunHere, ConstantsStand}
 use Rattle.au_judged_programs.proofs.RoundLemmas.{round_fits}
 use Rattle.au_judged_programs.specs.CheckedChecked.{IsChecked}
 use Rattle.au_judged_programs.proofs.DefinitionLemmas.{definitions_fit}
@@ -150,20 +150,21 @@ module _ (program : List ModuleParts) (noted : List NotedParts) (body : BodyOf) 
       → ConstantsStand program noted body.place (generics_of program noted body given) given
       → CallsRunHere program noted body.place (generics_of program noted body given) given owner known
       → (loose active : ℕ → Bool) (first : ℕ) (s : Bindings) (names : ℕ → Meaning)
-      → StandsFor (heads_of program) (parameters (generics_of program noted body given)) given s
+      → AreGoodHere program noted body.place (generics_of program noted body given) given s
       → ((name : List ℕ) → IsRegionName [] (parameters (generics_of program noted body given)) name
       → InScope active (region_for (value_of name s) name))
+      → TypesAreUsable active (parameters (generics_of program noted body given)) s
       → BesidesAll (view_of program noted body given) loose (first + length (parameters_under program noted given body))
       good.scope (meaning.with_parameters first (parameters_under program noted given body) []) body.block
       → BodyRuns program noted body given owner known loose active first s names
-  body_runs checked good constants calls loose active first s names stands regions besides = record {
+  body_runs checked good constants calls loose active first s names stands regions within besides = record {
     ofs = begun.ofs;
     result = good.scope.result;
     takes = begun.are;
     gives = result_written (outside_of program body.place Body) body.generics body.header good.scope good.formed;
     many = ap length alike ∙ counted;
     runs = all_run (types_of program) owner (view_of program noted body given) known given
-        (StandsFor (heads_of program) (parameters (generics_of program noted body given)) given) loose
+        (AreGoodHere program noted body.place (generics_of program noted body given) given) loose
         (running s 0 good.scope.result) body.block active
         (first + length (parameters_under program noted given body)) good.scope
         (meaning.with_parameters first (parameters_under program noted given body) []) s
@@ -171,17 +172,17 @@ module _ (program : List ModuleParts) (noted : List NotedParts) (body : BodyOf) 
   }
     where
       begun : BodyBegins (types_of program) owner (view_of program noted body given) known given
-          (StandsFor (heads_of program) (parameters (generics_of program noted body given)) given) active first s names
+          (AreGoodHere program noted body.place (generics_of program noted body given) given) active first s names
           (outer_scope (outside_of program body.place Body) (generics_of program noted body given)) body.header.parameters
           good.scope
       begun = body_begins (types_of program) owner (view_of program noted body given) known given
-          (StandsFor (heads_of program) (parameters (generics_of program noted body given)) given)
+          (AreGoodHere program noted body.place (generics_of program noted body given) given)
           (outside_of program body.place Body) body.generics body.header good.scope good.formed
           (outside_known program
           (definitions_fit program checked.gathered checked.named checked.kept checked.declared)
           (declarations_fit program noted checked) body.place Body)
           (round_fits program noted body.place (generics_of program noted body given) given owner known checked constants
-          calls) active first s names stands regions
+          calls) active first s names stands regions within
 
       alike : parameters_under program noted given body ≡ fields_given given body.header.parameters begun.ofs
       alike = given_alike program body.place body.generics given body.header.parameters begun.ofs begun.are
@@ -192,7 +193,7 @@ module _ (program : List ModuleParts) (noted : List NotedParts) (body : BodyOf) 
 
       Placed : ℕ → List Field → Type 0
       Placed n fields = PlaceFits (types_of program) owner (view_of program noted body given) known given
-          (StandsFor (heads_of program) (parameters (generics_of program noted body given)) given)
+          (AreGoodHere program noted body.place (generics_of program noted body given) given)
           (running s 0 good.scope.result) active (first + n) good.scope (meaning.with_parameters first fields []) s
           (with_types first (kinds_given s begun.ofs) names)
 

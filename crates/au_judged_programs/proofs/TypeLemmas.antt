@@ -109,27 +109,27 @@ are_fine e = list_all (λ says. is_fine_exit (joined e.tree.name) says (type_dec
 all_fine : list_all are_fine shipped ≡ true
 all_fine = refl
 
-fine_is : (b good : Bool) → b ≡ true → not b || good ≡ true → good ≡ true
+pub fine_is : (b good : Bool) → b ≡ true → not b || good ≡ true → good ≡ true
 fine_is true good is e = e
 fine_is false good is e = absurd (true≢false (sym is))
 
 module _ (program : List ModuleParts) (noted : List NotedParts) (checked : IsChecked program noted) where
   -- ---- the declaration of a shipped type
 
-  record IsShippedType (at : DeclAt) (head : Head) (owner : Bytes) : Type 0 where
-    d : Standing
-    m : ModuleParts
-    found : standing_at program at ≡ Some d
-    placed : d.place ≡ at.«module»
-    here : slice_get program at.«module» ≡ Some m
-    name : m.name ≡ owner
-    one : DeclaredType
-    declared : type_declared d.says ≡ Some one
-    is : head ≡ head_for m.name one
-    entry : Entry
-    among : Among entry shipped
-    same : m ≡ shipped_module entry
-    listed : Among d.says entry.tree.declarations
+  pub record IsShippedType (at : DeclAt) (head : Head) (owner : Bytes) : Type 0 where
+    pub d : Standing
+    pub m : ModuleParts
+    pub found : standing_at program at ≡ Some d
+    pub placed : d.place ≡ at.«module»
+    pub here : slice_get program at.«module» ≡ Some m
+    pub name : m.name ≡ owner
+    pub one : DeclaredType
+    pub declared : type_declared d.says ≡ Some one
+    pub is : head ≡ head_for m.name one
+    pub entry : Entry
+    pub among : Among entry shipped
+    pub same : m ≡ shipped_module entry
+    pub listed : Among d.says entry.tree.declarations
 
   in_shipped : (at : DeclAt) (head : Head) (owner name : Bytes) (d : Standing) (m : ModuleParts)
       → list_all is_plain owner ≡ true → list_all is_plain name ≡ true → standing_at program at ≡ Some d
@@ -169,7 +169,7 @@ module _ (program : List ModuleParts) (noted : List NotedParts) (checked : IsChe
       its : (d.place ≡ at.«module») × Among d.says e.tree.declarations
       its = in_part (stands_in program at d found)
 
-  shipped_type : (at : DeclAt) (head : Head) (owner name : Bytes) → list_all is_plain owner ≡ true
+  pub shipped_type : (at : DeclAt) (head : Head) (owner name : Bytes) → list_all is_plain owner ≡ true
       → list_all is_plain name ≡ true → list_any (has_name owner) shipped ≡ true
       → head_of (heads_of program) at ≡ Some head → head.text ≡ owner ++ 58 ∷ name → IsShippedType at head owner
   shipped_type at head owner name plain_owner plain_name known e text = by (head_stands program at head e)

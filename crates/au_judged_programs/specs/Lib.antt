@@ -10,5 +10,9 @@ pub mod StandingConstantsStanding
 pub mod Judged
 pub mod Runs
 pub mod Programs
+pub mod ShippedMethods
+pub mod SeenMethods
 pub mod CheckedCallsChecked
 pub mod Entries
+pub mod ShippedCalls
+pub mod Sound

@@ -18,6 +18,8 @@ use Rattle.au_names.specs.declared.targets.Target.{Target}
 use Rattle.au_names.specs.HeadsOf.{heads_of}
 use Rattle.au_names.specs.Standing.{Standing, standing_at}
 use Rattle.au_promises.specs.Fulfilled.{AllFulfil}
+use Rattle.au_instances.specs.Tables.{IsTable}
+use Rattle.au_classes.specs.Rows.{rows_of}
 use Rattle.au_judged_bodies.specs.TypeNames.{type_names}
 use Rattle.au_judged_bodies.specs.Leading.{a_function, called_of, module_name}
 use Rattle.au_closing_laws.specs.Premises.{AreOfParts, FunctionsAreShipped}
@@ -41,8 +43,8 @@ use Rattle.au_judged_bodies.specs.Callees.{IsPut}
 use Rattle.au_judged_bodies.specs.Sights.{CallIsSeen}
 use Rattle.au_judged_bodies.specs.Makers.{DefinitionsAreApart, OwnTypesAreDefined}
 use Rattle.au_judged_bodies.specs.Functions.{BodyRuns, IsDeclaredWell}
-use Rattle.au_judged_bodies.specs.Keys.{ways}
-use Rattle.au_judged_programs.specs.CalledBodiesBodies.{is_function}
+use Rattle.au_judged_bodies.specs.Keys.{ConstraintsHold, ways}
+use Rattle.au_judged_programs.specs.CalledBodiesBodies.{ConstraintsAreMeant, is_function}
 
 -- a declaration is a class
 abbrev pub is_class : PlainDeclaration → Bool
@@ -55,7 +57,8 @@ has_headers says = is_function says || is_class says
 
 -- What is asked of a program with notes: its definitions fit their rows, the names in each are apart, and
 -- each is that of the type of its name; its bodies fulfil its interfaces; each declaration is one that its
--- part may have, what has no body is shipped, and no two parameters of a function or a method have one name.
+-- part may have, what has no body is shipped, and no two parameters of a function or a method have one name;
+-- the constraints of each body mean classes, and the rows of its instances are a table.
 pub record ProgramFits (program : List ModuleParts) (trees : List NotedParts) : Type 0 where
   pub fit : DefinitionsFit program
   pub apart : DefinitionsAreApart program
@@ -67,6 +70,8 @@ pub record ProgramFits (program : List ModuleParts) (trees : List NotedParts) : 
   pub headers : (target : Target) (d : Standing) (called : Callable) → standing_at program target.at ≡ Some d
       → has_headers d.says ≡ true → declared_callable program d target.at target.name d.says ≡ Some called
       → AreApart (names_of called.parameters)
+  pub meant : ConstraintsAreMeant program trees
+  pub table : IsTable (rows_of program)
 
 module _ (program : List ModuleParts) (trees : List NotedParts) (place : ℕ) (params : List Parameter)
     (regions : List Bytes) (given : Given) (s : Bindings) (z : ℕ) (active : ℕ → Bool) where
@@ -111,17 +116,17 @@ module _ (program : List ModuleParts) (trees : List NotedParts) (place : ℕ) (g
   abbrev pub OthersAreSeen : Type 0
   OthersAreSeen =
       (regions : List Bytes) (s : Bindings) (z : ℕ) (active : ℕ → Bool)
-      → BodyRuns program (parameters generics) regions given s z active
+      → BodyRuns program (parameters generics) regions given s z active → ConstraintsHold program generics s
       → ShippedAreSeen program trees place (parameters generics) regions given s z active
       × MethodsAreSeen regions s z active
 
-  -- Then all good calls in a body run, in each frame that fits.
+  -- Then all good calls in a body run, in each frame that fits, where the constraints of the body hold.
   abbrev pub CallsOfBodiesRun : Type 0
   CallsOfBodiesRun =
       ProgramFits program trees → OthersAreSeen → (names : ℕ → Meaning) (active : ℕ → Bool) (sc : Scope)
       (scope : meaning.Scope) (s : Bindings) (z : ℕ) → sc.outside ≡ outside_of program place Body
       → sc.generics ≡ generics
-      → StandsFor (heads_of program) (parameters generics) given s
+      → StandsFor (heads_of program) (parameters generics) given s → ConstraintsHold program generics s
       → FrameFits (types_of program)
       (view_under program trees place (parameters generics) given) names active sc scope s
       given z

@@ -25,6 +25,7 @@ use Rattle.au_judged_bodies.specs.Tables.{types_of}
 use Rattle.au_judged_bodies.specs.Known.{Callables}
 use Rattle.au_judged_bodies.specs.StandingTypesStanding.{StandsFor}
 use Rattle.au_judged_bodies.specs.Frames.{FrameFits}
+use Rattle.au_judged_bodies.specs.Keys.{ConstraintsHold}
 use Rattle.au_judged_bodies.specs.TypedRunsLaws.{CallsRun}
 use Rattle.au_judged_bodies.specs.Rounds.{RoundFits}
 use Rattle.au_judged_programs.specs.CheckedChecked.{IsChecked}
@@ -41,12 +42,16 @@ module _ (program : List ModuleParts) (noted : List NotedParts) (place : ℕ) (g
     pub wholes : (name : Bytes) (t : Meaning) → (outside_of program place Body).constant name ≡ Some t
         → (is_some (fields_of program place t) ≡ false) × (target_behind t ≡ None)
 
+  -- bindings stand for the type parameters of a body, and the constraints of these hold
+  abbrev pub AreGoodHere : Bindings → Type 0
+  AreGoodHere s = StandsFor (heads_of program) (parameters generics) given s × ConstraintsHold program generics s
+
   -- Calls in a body run in each frame that fits.
   abbrev pub CallsRunHere : (ClosedType → Option (List ℕ)) → {K : Type 0} → Callables Instance K → Type 0
   CallsRunHere owner known =
       (names : ℕ → Meaning) (active : ℕ → Bool) (sc : Scope) (scope : meaning.Scope) (s : Bindings) (z : ℕ)
       → sc.outside ≡ outside_of program place Body → sc.generics ≡ generics
-      → StandsFor (heads_of program) (parameters generics) given s
+      → StandsFor (heads_of program) (parameters generics) given s → ConstraintsHold program generics s
       → FrameFits (types_of program)
       (view_under program noted place (parameters generics) given) names active sc scope s
       given z
@@ -60,5 +65,4 @@ module _ (program : List ModuleParts) (noted : List NotedParts) (place : ℕ) (g
   RoundsFit owner known =
       IsChecked program noted → ConstantsStand → CallsRunHere owner known
       → RoundFits (types_of program) owner (view_under program noted place (parameters generics) given) known
-      (outside_of program place Body) generics given
-      (StandsFor (heads_of program) (parameters generics) given)
+      (outside_of program place Body) generics given AreGoodHere

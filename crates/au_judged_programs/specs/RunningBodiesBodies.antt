@@ -10,7 +10,6 @@ use Rattle.au_type_texts.specs.Types.{ClosedType}
 use Rattle.au_running_types.specs.Running.{running}
 use Rattle.au_written_types.specs.Written.{IsRegionName}
 use Rattle.au_modules.specs.Programs.{ModuleParts}
-use Rattle.au_names.specs.HeadsOf.{heads_of}
 use Rattle.au_judged_bodies.specs.Typing.Bodies.{GoodBody, generics_in, outer_scope}
 use Rattle.au_judged_bodies.specs.Lookups.{written_type}
 use Rattle.au_judged_bodies.specs.Notes.{Note}
@@ -24,10 +23,10 @@ use Rattle.au_judged_bodies.specs.Generic.{parameters_under, view_under}
 use Rattle.au_judged_bodies.specs.Tables.{types_of}
 use Rattle.au_judged_bodies.specs.Blocks.{RunsAll, with_types}
 use Rattle.au_judged_bodies.specs.Known.{Callables, InScope}
-use Rattle.au_judged_bodies.specs.StandingTypesStanding.{StandsFor}
+use Rattle.au_judged_bodies.specs.Frames.{TypesAreUsable}
 use Rattle.au_judged_bodies.specs.Begun.{AreMeant, kinds_given}
 use Rattle.au_judged_bodies.specs.Besides.{BesidesAll}
-use Rattle.au_judged_programs.specs.RoundProgramsBodies.{CallsRunHere, ConstantsStand}
+use Rattle.au_judged_programs.specs.RoundProgramsBodies.{AreGoodHere, CallsRunHere, ConstantsStand}
 use Rattle.au_judged_programs.specs.CheckedChecked.{IsChecked}
 
 module _ (program : List ModuleParts) (noted : List NotedParts) (body : BodyOf) (given : Given) where
@@ -55,8 +54,8 @@ module _ (program : List ModuleParts) (noted : List NotedParts) (body : BodyOf) 
         (with_types first (kinds_given s ofs) names)
 
   -- A body that is good by the rules of typing runs in a frame where what stands for its type parameters is
-  -- good and the regions among these may be used, where constants stand and calls run, and where it is what
-  -- it is asked besides.
+  -- good and its regions may be used, where constants stand and calls run, and where it is what it is asked
+  -- besides.
   abbrev pub BodiesOfProgramsRun : (ClosedType → Option (List ℕ)) → {K : Type 0} → Callables Instance K
       → Type 0
   BodiesOfProgramsRun owner known =
@@ -65,9 +64,10 @@ module _ (program : List ModuleParts) (noted : List NotedParts) (body : BodyOf) 
       → ConstantsStand program noted body.place generics_of given
       → CallsRunHere program noted body.place generics_of given owner known
       → (loose active : ℕ → Bool) (first : ℕ) (s : Bindings) (names : ℕ → Meaning)
-      → StandsFor (heads_of program) (parameters generics_of) given s
+      → AreGoodHere program noted body.place generics_of given s
       → ((name : List ℕ) → IsRegionName [] (parameters generics_of) name
       → InScope active (region_for (value_of name s) name))
+      → TypesAreUsable active (parameters generics_of) s
       → BesidesAll view_of loose (first + length (parameters_under program noted given body)) good.scope
       (meaning.with_parameters first (parameters_under program noted given body) []) body.block
       → BodyRuns owner known loose active first s names

@@ -4,6 +4,6 @@ use Rattle.au_judged_bodies.proofs.typed_bodies.bodies_begin.Goals as goal
 
 pub returns : goal.returns
 returns g c = λ types owner see known heads params given outside generics header scope formed out round active first s names
-    stands regions.
+    stands regions within.
     body_begins types owner see known given (StandsFor heads params given) outside generics header scope formed out round
-    active first s names stands regions
+    active first s names stands regions within

@@ -3,6 +3,6 @@ use Rattle.au_judged_programs.proofs.running_bodies.bodies_run.Goals as goal
 
 pub returns : goal.returns
 returns g c = λ program noted body given owner known checked good constants calls loose active first s names stands regions
-    besides.
+    within besides.
     body_runs program noted body given owner known checked good constants calls loose active first s names stands regions
-    besides
+    within besides
