@@ -19,7 +19,7 @@ use Rattle.au_borrows.specs.Told.{Told, with_use}
 use Rattle.au_borrows.proofs.InvariantLemmas.{keeps_on}
 use Rattle.au_acting.specs.Referring.{LendsContents, LendsParts, Swaps}
 use Rattle.au_acting.specs.Safe.{IsSafe}
-use Rattle.au_acting.proofs.ReferLemmas.{newest_writes, refers_part, same_borrow, second_writes, used_first}
+use Rattle.au_acting.proofs.ReferLemmas.{newest_writes, same_borrow, second_writes, used_first}
 use Rattle.au_acting.proofs.RowLemmas.{parts_more, parts_one, parts_same}
 
 module _ (B : Type 0) (types : Types) (owner : B → Option (List ℕ)) (acts : List Act) (hold : Holds)
@@ -61,7 +61,6 @@ module _ (B : Type 0) (types : Types) (owner : B → Option (List ℕ)) (acts : 
       let done = content_lent types forms boxes inv.clock (is_active acts) (is_active acts) hold type r t of z under s m
       inv.core is on in
       let same = same_borrow r b done.row.borrow refers.to done.row.to refers.is done.leads in
-      let part = refers_part s r z refers done.row (sym done.of_token) done.leads in
       let row = part_row done.loan done.row (content_place done.born) of in
       let now : IsSafe types owner acts hold type
       ((reference done.row.borrow (content_place done.born), meaning.writes of (token done.row.token)) ∷ under) m
@@ -73,7 +72,8 @@ module _ (B : Type 0) (types : Types) (owner : B → Option (List ℕ)) (acts : 
             ((reference done.row.borrow (content_place done.born), meaning.writes of (token done.row.token)) ∷ under)
             (with_row inv.core.top row s) m done.after
             (λ i. let c = done.counts (birth i) in omega arith)
-            (parts_one s s inv.core.top done.loan done.row (content_place done.born) of part (parts_same s));
+            (parts_one s s inv.core.top done.loan done.row (content_place done.born) of done.has done.writer inv.core.known
+            inv.core.known (parts_same s));
       } in (
         done.row.borrow,
         done.row.to,
@@ -99,14 +99,14 @@ module _ (B : Type 0) (types : Types) (owner : B → Option (List ℕ)) (acts : 
       let done = parts_go types forms cases inv.clock (is_active acts) (is_active acts) hold type r t z under s m inv.core
       tag of is on in
       let same = same_borrow r b done.row.borrow refers.to done.row.to refers.is done.leads in
-      let part = refers_part s r z refers done.row (sym done.of_token) done.leads in
       let rows = with_part_rows inv.core.top done.loan done.row 0 done.of s in
       let now : IsSafe types owner acts hold type
       (with_parts done.row.borrow done.row.to done.row.token 0 done.of under) m (with_use b w) = record {
         rows = rows;
         inv = keeps_on B types owner acts hold type ((r, meaning.writes t (token z)) ∷ under) s m (with_use b w) inv
             inv.clock hold type (with_parts done.row.borrow done.row.to done.row.token 0 done.of under) rows m done.after
-            done.births (parts_more s done.loan done.row part done.of inv.core.top 0 s (parts_same s));
+            done.births (parts_more s done.loan done.row done.has done.writer done.of inv.core.top 0 s inv.core.known
+            inv.core.known (parts_same s));
       } in (
         done.row.borrow,
         done.row.to,

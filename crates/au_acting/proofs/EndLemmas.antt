@@ -16,7 +16,7 @@ use Rattle.au_lending.proofs.TokenEndLemmas.{token_ends}
 use Rattle.au_lending.proofs.TokenLemmas.{begun}
 use Rattle.au_borrows.specs.Invariants.{Inv}
 use Rattle.au_borrows.specs.Orders.{Act, AreSorted, is_active}
-use Rattle.au_borrows.specs.Told.{Told, with_closings}
+use Rattle.au_borrows.specs.Told.{Open, Told, with_closings}
 use Rattle.au_borrows.proofs.InvariantLemmas.{begins_on, ends_on, ends_well}
 use Rattle.au_acting.specs.Ending.{Begins, Ends, Finishes, Tells}
 use Rattle.au_acting.specs.Safe.{IsSafe}
@@ -94,7 +94,7 @@ module _ (B : Type 0) (types : Types) (owner : B → Option (List ℕ)) (a : Act
   alike : without a.token (is_active (a ∷ older)) ≡ is_active older
   alike = λ i y. left_active a older inv.sorted y i
 
-  ended : (newer : List ℕ) × (w.lying ≡ newer ++ a.base)
+  ended : (newer : List Open) × (w.lying ≡ newer ++ a.base)
       × IsSafe types owner older (λ frame x. freed a.token (hold frame x)) type under m (with_closings newer a.base w)
   ended =
       let below = inv.stacked.0 in

@@ -1,5 +1,5 @@
 -- What is done to names keeps the invariant.
-use Rattle.std.proofs.Common.{◌≡◌, ◌⊎◌, inl, inr, ℕ, ◌≤◌, ◌<◌, true, List, [], ◌∷◌, Option, Some}
+use Rattle.std.proofs.Common.{◌≡◌, ◌⊎◌, inl, inr, ℕ, ◌≤◌, ◌<◌, true, false, List, [], ◌∷◌, Option, Some}
 use Rattle.std.proofs.Common.{refl, sym, subst, arith}
 use Rattle.std.specs.Prelude.{None}
 use Rattle.std.proofs.lemmas.Bool.{eq-eqb}
@@ -81,7 +81,7 @@ module _ (B : Type 0) (types : Types) (owner : B → Option (List ℕ)) (acts : 
         inv = keeps_on B types owner acts hold type ((v, t) ∷ under) state.rows m w inv inv.clock
             (with_hold frame x ready hold) (with_name frame x t type) under
             (with_row inv.core.top (name_row frame x t) state.rows) (with_base (name_of frame x) (Some v) m) done.after
-            (λ i. let c = done.counts (birth i) in omega arith) (parts_named inv.core.top frame x t state.rows);
+            (λ i. let c = done.counts (birth i) in omega arith) (parts_named inv.core.top frame x t state.rows inv.core.known);
       }
 
   -- ---- borrows
@@ -94,20 +94,21 @@ module _ (B : Type 0) (types : Types) (owner : B → Option (List ℕ)) (acts : 
       let lent = done.4 in
       let via = lent_of (inv.core.root frame x) in
       let now : IsSafe types owner acts (with_hold frame x (shut a.token) hold) type
-      ((reference w.next_borrow done.0.to, meaning.writes done.0.type (token a.token)) ∷ under) m (with_opening w) =
+      ((reference w.next_borrow done.0.to, meaning.writes done.0.type (token a.token)) ∷ under) m (with_opening true (name_along frame x []) w) =
       record {
         rows = with_row inv.core.top (lent_row w.next_borrow a.token done.0 via) state.rows;
         inv = opens_on B types owner acts hold type under state.rows m w inv a older inv.clock
             (with_hold frame x (shut a.token) hold) type
             ((reference w.next_borrow done.0.to, meaning.writes done.0.type (token a.token)) ∷ under)
-            (with_row inv.core.top (lent_row w.next_borrow a.token done.0 via) state.rows) m acts_are lent.after
+            (with_row inv.core.top (lent_row w.next_borrow a.token done.0 via) state.rows) m true (name_along frame x []) acts_are lent.after
             (λ i. let c = lent.counts (birth i) in omega arith)
-            (opened_lent inv.core.top w.next_borrow a.token done.0 via state.rows);
+            (opened_lent inv.core.top w.next_borrow a.token done.0 via state.rows tt inv.core.known (name_along frame x [])
+            done.3);
       } in
       subst (λ p. IsSafe types owner acts (with_hold frame x (shut a.token) hold) type
-      ((reference w.next_borrow p, meaning.writes (type frame x) (token a.token)) ∷ under) m (with_opening w)) done.3
+      ((reference w.next_borrow p, meaning.writes (type frame x) (token a.token)) ∷ under) m (with_opening true (name_along frame x []) w)) done.3
       (subst (λ u. IsSafe types owner acts (with_hold frame x (shut a.token) hold) type
-      ((reference w.next_borrow done.0.to, meaning.writes u (token a.token)) ∷ under) m (with_opening w)) done.2 now)
+      ((reference w.next_borrow done.0.to, meaning.writes u (token a.token)) ∷ under) m (with_opening true (name_along frame x []) w)) done.2 now)
 
   pub reads : Reads B types owner acts hold type under m w
   reads a older acts_are frame x is state =
@@ -120,10 +121,10 @@ module _ (B : Type 0) (types : Types) (owner : B → Option (List ℕ)) (acts : 
         inv = opens_on B types owner acts hold type under state.rows m w inv a older inv.clock
             (with_hold frame x (also_watched a.token (hold frame x)) hold) type
             ((reference w.next_borrow (name_along frame x []), meaning.reads (type frame x) (token a.token)) ∷ under)
-            (with_row inv.core.top row state.rows) m acts_are done.after
+            (with_row inv.core.top row state.rows) m false (name_along frame x []) acts_are done.after
             (λ i. done.counts (birth i))
             (opened_read inv.core.top w.next_borrow a.token frame x (type frame x) (inv.core.root frame x) done.tree
-            state.rows);
+            state.rows inv.core.known);
       }
 
   pub relends : Relends B types owner acts hold type under m w
@@ -138,21 +139,21 @@ module _ (B : Type 0) (types : Types) (owner : B → Option (List ℕ)) (acts : 
       let via = lent_through (inv.core.root frame x) done.loan in
       let now : IsSafe types owner acts (with_hold frame x (shut a.token) hold) type
       ((reference w.next_borrow done.row.to, meaning.writes done.row.type (token a.token)) ∷ under) m
-      (with_opening w) =
+      (with_opening true done.row.to w) =
       record {
         rows = with_row inv.core.top (lent_row w.next_borrow a.token done.row via) state.rows;
         inv = opens_on B types owner acts hold type under state.rows m w inv a older inv.clock
             (with_hold frame x (shut a.token) hold) type
             ((reference w.next_borrow done.row.to, meaning.writes done.row.type (token a.token)) ∷ under)
-            (with_row inv.core.top (lent_row w.next_borrow a.token done.row via) state.rows) m acts_are lent.after
+            (with_row inv.core.top (lent_row w.next_borrow a.token done.row via) state.rows) m true done.row.to acts_are lent.after
             (λ i. let c = lent.counts (birth i) in omega arith)
-            (opened_lent inv.core.top w.next_borrow a.token done.row via state.rows);
+            (opened_lent inv.core.top w.next_borrow a.token done.row via state.rows tt inv.core.known done.row.to refl);
       } in (
         done.row.borrow,
         done.row.to,
         done.there,
         subst (λ u. IsSafe types owner acts (with_hold frame x (shut a.token) hold) type
-            ((reference w.next_borrow done.row.to, meaning.writes u (token a.token)) ∷ under) m (with_opening w))
+            ((reference w.next_borrow done.row.to, meaning.writes u (token a.token)) ∷ under) m (with_opening true done.row.to w))
             done.typed now,
       )
 

@@ -16,7 +16,6 @@ use Rattle.au_borrows.specs.Invariants.{Inv}
 use Rattle.au_borrows.specs.Orders.{Act, is_active}
 use Rattle.au_borrows.specs.Told.{Told, with_use}
 use Rattle.au_borrows.proofs.InvariantLemmas.{uses_on}
-use Rattle.au_acting.proofs.RowLemmas.{HasPart}
 
 -- A value refers: it is the reference of a loan of this token.
 pub record Refers (s : Table) (r : Value) (z : ℕ) : Type 0 where
@@ -107,15 +106,3 @@ used_first B types owner acts hold type under s m w inv r z refers on =
 -- two references that are one value are of one borrow
 pub same_borrow : (r : Value) (b c : ℕ) (to at : Place) → r ≡ reference b to → r ≡ reference c at → b ≡ c
 same_borrow r b c to at first second = cc
-
--- a part of what a reference refers to has its borrow and its token
-pub refers_part : (s : Table) (r : Value) (z : ℕ) (refers : Refers s r z) (p : Loan) → p.token ≡ z
-    → r ≡ reference p.borrow p.to → HasPart s p
-refers_part s r z refers p of is = (
-  refers.loan,
-  refers.row,
-  refers.has,
-  refers.is_loan,
-  refers.of_token ∙ sym of,
-  same_borrow r refers.row.borrow p.borrow refers.to p.to refers.is is,
-)

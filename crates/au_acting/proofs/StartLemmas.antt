@@ -65,6 +65,13 @@ starts B types owner type = record {
     stacked = tt;
     sorted = tt;
     owned = λ g l row loan on. absurd cc;
+    linked = record {
+      opened = λ g l row loan. absurd cc;
+      alive = λ g l row loan some. absurd cc;
+      kind = λ g l one row loan is number. absurd cc;
+      ordered = λ g l k n row parent row_k loan_n. absurd cc;
+      seen = λ one is. absurd is;
+    };
   };
 }
 
@@ -114,6 +121,7 @@ module _ (B : Type 0) (types : Types) (owner : B → Option (List ℕ)) (acts : 
           stacked = inv.stacked;
           sorted = inv.sorted;
           owned = inv.owned;
+          linked = inv.linked;
         };
       }
 

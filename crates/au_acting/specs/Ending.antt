@@ -7,7 +7,7 @@ use Rattle.au_memory.specs.Forests.{Holds, Made, empty, shut}
 use Rattle.au_memory.specs.Loans.{Types}
 use Rattle.au_lending.specs.Ending.{freed}
 use Rattle.au_borrows.specs.Orders.{Act, is_active}
-use Rattle.au_borrows.specs.Told.{Told, with_closings}
+use Rattle.au_borrows.specs.Told.{Open, Told, with_closings}
 use Rattle.au_acting.specs.Safe.{IsSafe}
 
 module _ (B : Type 0) (types : Types) (owner : B → Option (List ℕ)) (acts : List Act) (hold : Holds)
@@ -23,7 +23,7 @@ module _ (B : Type 0) (types : Types) (owner : B → Option (List ℕ)) (acts : 
   abbrev pub Ends : Type 0
   Ends =
       (a : Act) (older : List Act) → acts ≡ a ∷ older → IsSafe types owner acts hold type under m w
-      → (newer : List ℕ) × (w.lying ≡ newer ++ a.base)
+      → (newer : List Open) × (w.lying ≡ newer ++ a.base)
       × IsSafe types owner older (λ frame x. freed a.token (hold frame x)) type under m
       (with_closings newer a.base w)
 

@@ -1,5 +1,5 @@
 -- What is done to names.
-use Rattle.std.specs.Prelude.{◌≡◌, ℕ, true, List, [], ◌∷◌, Option, Some, None}
+use Rattle.std.specs.Prelude.{◌≡◌, ℕ, true, false, List, [], ◌∷◌, Option, Some, None}
 use Rattle.au_effects.specs.References.{name_along, place_along}
 use Rattle.au_effects.specs.Values.{Place, name_of, reference}
 use Rattle.au_places.specs.Memories.{Memory, held_at, with_base, written}
@@ -44,7 +44,7 @@ module _ (B : Type 0) (types : Types) (owner : B → Option (List ℕ)) (acts : 
       → IsSafe types owner acts hold type under m w
       → IsSafe types owner acts (with_hold frame x (shut a.token) hold) type
       ((reference w.next_borrow (name_along frame x []), writes (type frame x) (token a.token)) ∷ under) m
-      (with_opening w)
+      (with_opening true (name_along frame x []) w)
 
   -- One that is ready, or lent to read, is lent to read.
   abbrev pub Reads : Type 0
@@ -53,7 +53,7 @@ module _ (B : Type 0) (types : Types) (owner : B → Option (List ℕ)) (acts : 
       → IsSafe types owner acts hold type under m w
       → IsSafe types owner acts (with_hold frame x (also_watched a.token (hold frame x)) hold) type
       ((reference w.next_borrow (name_along frame x []), reads (type frame x) (token a.token)) ∷ under) m
-      (with_opening w)
+      (with_opening false (name_along frame x []) w)
 
   -- A write reference in a name that is ready is lent again, while the region of its type is in scope.
   abbrev pub Relends : Type 0
@@ -63,7 +63,7 @@ module _ (B : Type 0) (types : Types) (owner : B → Option (List ℕ)) (acts : 
       → IsSafe types owner acts hold type under m w
       → (borrow : ℕ) × (to : Place) × (m.at (name_of frame x) ≡ Some (reference borrow to))
       × IsSafe types owner acts (with_hold frame x (shut a.token) hold) type
-      ((reference w.next_borrow to, writes t (token a.token)) ∷ under) m (with_opening w)
+      ((reference w.next_borrow to, writes t (token a.token)) ∷ under) m (with_opening true to w)
 
   -- ---- parts of Free type
 

@@ -12,7 +12,7 @@ use Rattle.au_effects.specs.Values.{Base, Place, Value, content_of, name_of}
 use Rattle.au_effects.specs.Worlds.{Deed, Held, World, bears, consumed, content, elements, ends, nothing, tells}
 use Rattle.au_places.specs.Memories.{Memory, held_at, with_base, with_items, written}
 use Rattle.au_places.specs.Places.{same_base}
-use Rattle.au_borrows.specs.Told.{Told}
+use Rattle.au_borrows.specs.Told.{Open, Told}
 use Rattle.au_agreeing.specs.Stores.{HasName, memory_of, sizes_of, told_of}
 use Rattle.au_agreeing.proofs.ListLemmas.{along_more, along_set, get_none, get_within, put_same}
 
@@ -172,10 +172,10 @@ module _ {T B : Type 0} where
       (ap (λ o. along o elements_in) held.1 ∙ no_elements held.0 u held.2)
 
   -- what is told of a store, with so many births
-  abbrev counted : World T B → List ℕ → ℕ → Told B
+  abbrev counted : World T B → List Open → ℕ → Told B
   counted w lying n = record { next_birth = n; next_borrow = w.borrows; lying = lying; events = w.deeds }
 
-  base_told : (w : World T B) (base : Base) (v : Value T) (lying : List ℕ)
+  base_told : (w : World T B) (base : Base) (v : Value T) (lying : List Open)
       → told_of lying (base_set base v w) ≡ told_of lying w
   base_told w (name_of frame x) v lying = refl
   base_told w (content_of i) v lying =
@@ -193,7 +193,7 @@ module _ {T B : Type 0} where
   pub place_written : (w : World T B) (place : Place) (new old : Value T) → held_at (memory_of w) place ≡ Some old
       → (after : World T B) × (exchanged place new w ≡ Some (old, after))
       × (memory_of after ≡ written place new (memory_of w))
-      × ((lying : List ℕ) → told_of lying after ≡ told_of lying w) × (after.keeps ≡ w.keeps)
+      × ((lying : List Open) → told_of lying after ≡ told_of lying w) × (after.keeps ≡ w.keeps)
       × (sizes_of after ≡ sizes_of w)
   place_written w place new old h = by (base_at place.base w) refl h
     where
@@ -201,7 +201,7 @@ module _ {T B : Type 0} where
           → (after : World T B) × (set_over place new w o ≡ Some (old, after))
           × (memory_of after ≡ with_base place.base (option_map (with_part place.path new) (base_at place.base w))
           (memory_of w))
-          × ((lying : List ℕ) → told_of lying after ≡ told_of lying w) × (after.keeps ≡ w.keeps)
+          × ((lying : List Open) → told_of lying after ≡ told_of lying w) × (after.keeps ≡ w.keeps)
           × (sizes_of after ≡ sizes_of w)
       by None is k = absurd cc
       by (Some base) is k =
@@ -217,7 +217,7 @@ module _ {T B : Type 0} where
 
   pub items_memory : (w : World T B) (id : ℕ) (old values : List (Value T)) → (memory_of w).elements id ≡ Some old
       → (memory_of (with_elements id values w) ≡ with_items id (Some values) (memory_of w))
-      × ((lying : List ℕ) → told_of lying (with_elements id values w) ≡ told_of lying w)
+      × ((lying : List Open) → told_of lying (with_elements id values w) ≡ told_of lying w)
   items_memory w id old values h =
       let held = birth_within w id elements_in old h in (
         set_items w id (elements values) (get_within w.births id held.0 held.1) (Some values) refl

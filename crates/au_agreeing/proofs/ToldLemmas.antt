@@ -2,15 +2,15 @@
 use Rattle.std.proofs.Common.{◌≡◌, ℕ, suc, ◌+◌, Bool, true, false, List, [], ◌∷◌, ◌++◌, length, Option, Some, None}
 use Rattle.std.proofs.Common.{refl, sym, ap, subst, ◌∙◌, arith, if◌then◌else◌}
 use Rattle.std.proofs.Common.{length-set}
-use Rattle.au_effects.specs.Values.{Value}
+use Rattle.au_effects.specs.Values.{Place, Value}
 use Rattle.au_effects.specs.Worlds.{Deed, Held, World, bears, born, closed, closes, consumed, content, elements, ends}
 use Rattle.au_effects.specs.Worlds.{nothing, opened, opens, spends, tells, used}
-use Rattle.au_borrows.specs.Told.{Told, with_birth, with_closing, with_closings, with_end, with_opening, with_use}
+use Rattle.au_borrows.specs.Told.{Open, Told, numbers, with_birth, with_closing, with_closings, with_end, with_opening, with_use}
 use Rattle.au_agreeing.specs.Stores.{told_of}
 use Rattle.au_agreeing.proofs.ListLemmas.{length_more}
 
 -- what is told, from its parts
-abbrev telling : {B : Type 0} → ℕ → ℕ → List ℕ → List (Deed B) → Told B
+abbrev telling : {B : Type 0} → ℕ → ℕ → List Open → List (Deed B) → Told B
 telling birth borrow lying events =
     record { next_birth = birth; next_borrow = borrow; lying = lying; events = events }
 
@@ -19,7 +19,7 @@ module _ {T B : Type 0} (w : World T B) (keeps : w.keeps ≡ true) where
   kept : (d : Deed B) → (if w.keeps then w.deeds ++ d ∷ [] else w.deeds) ≡ w.deeds ++ d ∷ []
   kept d = ap (λ (k : Bool). if k then w.deeds ++ d ∷ [] else w.deeds) keeps
 
-  module _ (lying : List ℕ) where
+  module _ (lying : List Open) where
     born_told : (of : B) (home : List ℕ) (held : Held T)
         → told_of lying (bears of home held w) ≡ with_birth of home (told_of lying w)
     born_told of home held =
@@ -53,24 +53,26 @@ module _ {T B : Type 0} (w : World T B) (keeps : w.keeps ≡ true) where
       spent_told,
     )
 
-  pub opened_told : (lying : List ℕ) → told_of (w.borrows ∷ lying) (opens w) ≡ with_opening (told_of lying w)
-  opened_told lying =
+  pub opened_told : (lying : List Open) (writes : Bool) (place : Place)
+      → told_of (record { number = w.borrows; writes = writes; place = place } ∷ lying) (opens w)
+      ≡ with_opening writes place (told_of lying w)
+  opened_told lying writes place =
       let one : w.borrows + 1 ≡ suc w.borrows = omega arith in
-      ap (λ (es : List (Deed B)). telling (length w.births) (w.borrows + 1) (w.borrows ∷ lying) es)
-      (kept (opened w.borrows))
-      ∙ ap (λ (n : ℕ). telling (length w.births) n (w.borrows ∷ lying) (w.deeds ++ opened w.borrows ∷ [])) one
+      let all : List Open = record { number = w.borrows; writes = writes; place = place } ∷ lying in
+      ap (λ (es : List (Deed B)). telling (length w.births) (w.borrows + 1) all es) (kept (opened w.borrows))
+      ∙ ap (λ (n : ℕ). telling (length w.births) n all (w.deeds ++ opened w.borrows ∷ [])) one
 
-  pub used_told : (lying : List ℕ) (b : ℕ) → told_of lying (tells (used b) w) ≡ with_use b (told_of lying w)
+  pub used_told : (lying : List Open) (b : ℕ) → told_of lying (tells (used b) w) ≡ with_use b (told_of lying w)
   used_told lying b = ap (λ (es : List (Deed B)). telling (length w.births) w.borrows lying es) (kept (used b))
 
-  closing_told : (lying : List ℕ) (b : ℕ) (left : List ℕ)
-      → told_of left (tells (closed b) w) ≡ with_closing b left (told_of lying w)
+  closing_told : (lying : List Open) (b : Open) (left : List Open)
+      → told_of left (tells (closed b.number) w) ≡ with_closing b left (told_of lying w)
   closing_told lying b left =
-      ap (λ (es : List (Deed B)). telling (length w.births) w.borrows left es) (kept (closed b))
+      ap (λ (es : List (Deed B)). telling (length w.births) w.borrows left es) (kept (closed b.number))
 
-pub closed_told : {T B : Type 0} (w : World T B) → w.keeps ≡ true → (newer left : List ℕ)
-    → told_of left (closes newer w) ≡ with_closings newer left (told_of (newer ++ left) w)
+pub closed_told : {T B : Type 0} (w : World T B) → w.keeps ≡ true → (newer left : List Open)
+    → told_of left (closes (numbers newer) w) ≡ with_closings newer left (told_of (newer ++ left) w)
 closed_told w keeps [] left = refl
 closed_told w keeps (b ∷ rest) left =
-    closed_told (tells (closed b) w) keeps rest left
+    closed_told (tells (closed b.number) w) keeps rest left
     ∙ ap (with_closings rest left) (closing_told w keeps (b ∷ rest ++ left) b (rest ++ left))

@@ -6,7 +6,7 @@ use Rattle.au_effects.specs.Places.{base_at}
 use Rattle.au_effects.specs.Values.{Value}
 use Rattle.au_effects.specs.Worlds.{World}
 use Rattle.au_places.specs.Memories.{Memory}
-use Rattle.au_borrows.specs.Told.{Told}
+use Rattle.au_borrows.specs.Told.{Open, Told}
 
 module _ {T B : Type 0} where
   -- what its names, its boxes and its buffers hold
@@ -17,7 +17,7 @@ module _ {T B : Type 0} where
   }
 
   -- what is told of it, where these borrows lie open
-  abbrev pub told_of : List ℕ → World T B → Told B
+  abbrev pub told_of : List Open → World T B → Told B
   told_of lying w = record {
     next_birth = length w.births;
     next_borrow = w.borrows;

@@ -11,7 +11,8 @@ use Rattle.au_events.proofs.BirthLemmas.{bounded, lives_ended, lives_pushed}
 use Rattle.au_events.proofs.BorrowLemmas.{uses_pushed}
 use Rattle.au_events.proofs.CountLemmas.{summed_push}
 use Rattle.au_events.proofs.HomeLemmas.{homes_pushed}
-use Rattle.au_borrows.specs.Told.{Fits, Told, times, with_birth, with_closing, with_closings, with_end, with_opening}
+use Rattle.au_effects.specs.Values.{Place}
+use Rattle.au_borrows.specs.Told.{Fits, Open, Told, times, with_birth, with_closing, with_closings, with_end, with_opening}
 use Rattle.au_borrows.specs.Told.{with_use}
 
 -- ---- numbers that are given in order
@@ -173,8 +174,8 @@ module _ {B : Type 0} (owner : B → Option (List ℕ)) (count : ℕ → ℕ) (w
         omega arith
 
   -- the next borrow is opened
-  pub fits_opened : Fits owner count (with_opening w)
-  fits_opened = record {
+  pub fits_opened : (writes : Bool) (place : Place) → Fits owner count (with_opening writes place w)
+  fits_opened writes place = record {
     even = even_stays (opened w.next_borrow) (λ i. refl) (λ i. refl);
     fresh = fresh_stays (opened w.next_borrow) (λ i. refl) (λ i. refl);
     lives = lives_stay w.events (opened w.next_borrow) fits.lives (λ i. refl) (λ i. refl);
@@ -238,31 +239,31 @@ module _ {B : Type 0} (owner : B → Option (List ℕ)) (count : ℕ → ℕ) (w
           subst (λ d. (1 ≤ openings d w.events) × (closings d w.events ≡ 0)) alike (is_open b there)
 
   -- the newest that lies open is closed
-  pub fits_closed : (b : ℕ) (left : List ℕ) → w.lying ≡ b ∷ left → Fits owner count (with_closing b left w)
+  pub fits_closed : (b : Open) (left : List Open) → w.lying ≡ b ∷ left → Fits owner count (with_closing b left w)
   fits_closed b left lies = record {
-    even = even_stays (closed b) (λ i. refl) (λ i. refl);
-    fresh = fresh_stays (closed b) (λ i. refl) (λ i. refl);
-    lives = lives_stay w.events (closed b) fits.lives (λ i. refl) (λ i. refl);
-    inside = uses_pushed w.events (closed b) fits.inside (λ c.
+    even = even_stays (closed b.number) (λ i. refl) (λ i. refl);
+    fresh = fresh_stays (closed b.number) (λ i. refl) (λ i. refl);
+    lives = lives_stay w.events (closed b.number) fits.lives (λ i. refl) (λ i. refl);
+    inside = uses_pushed w.events (closed b.number) fits.inside (λ c.
         let o = fits.inside.opened c in
         let a = fits.open_now c in
         let d = ap (times c) lies in
         record { opens = omega arith; closes = omega arith; uses = λ same. absurd cc });
-    homes = homes_stay w.events (closed b) owner fits.homes (λ i of home same. cc);
+    homes = homes_stay w.events (closed b.number) owner fits.homes (λ i of home same. cc);
     begun = λ c.
-        let a = summed_push (tells_opening c) w.events (closed b) in
+        let a = summed_push (tells_opening c) w.events (closed b.number) in
         let d = fits.begun c in
         omega arith;
     open_now = λ c.
-        let a = summed_push (tells_opening c) w.events (closed b) in
+        let a = summed_push (tells_opening c) w.events (closed b.number) in
         let d = closings_more c in
         let e = fits.open_now c in
         let f = ap (times c) lies in
         omega arith;
   }
     where
-      closings_more : (c : ℕ) → closings c (w.events ++ closed b ∷ []) ≡ closings c w.events + one_if (b == c)
-      closings_more c = summed_push (tells_closing c) w.events (closed b)
+      closings_more : (c : ℕ) → closings c (w.events ++ closed b.number ∷ []) ≡ closings c w.events + one_if (b.number == c)
+      closings_more c = summed_push (tells_closing c) w.events (closed b.number)
 
   -- ---- the end
 
@@ -277,13 +278,17 @@ module _ {B : Type 0} (owner : B → Option (List ℕ)) (count : ℕ → ℕ) (w
 
 -- ---- several are closed
 
-pub fits_ended : {B : Type 0} (owner : B → Option (List ℕ)) (count : ℕ → ℕ) (newer left : List ℕ) (w : Told B)
+pub fits_ended : {B : Type 0} (owner : B → Option (List ℕ)) (count : ℕ → ℕ) (newer left : List Open) (w : Told B)
     → w.lying ≡ newer ++ left → Fits owner count w → Fits owner count (with_closings newer left w)
 fits_ended owner count [] left w lies fits = fits
 fits_ended owner count (b ∷ rest) left w lies fits =
     fits_ended owner count rest left (with_closing b (rest ++ left) w) refl (fits_closed owner count w fits b (rest ++ left) lies)
 
-pub lying_after : {B : Type 0} (newer left : List ℕ) (w : Told B) → w.lying ≡ newer ++ left
+pub lying_after : {B : Type 0} (newer left : List Open) (w : Told B) → w.lying ≡ newer ++ left
     → (with_closings newer left w).lying ≡ left
 lying_after [] left w lies = lies
 lying_after (b ∷ rest) left w lies = lying_after rest left (with_closing b (rest ++ left) w) refl
+
+pub next_after : {B : Type 0} (newer left : List Open) (w : Told B) → (with_closings newer left w).next_borrow ≡ w.next_borrow
+next_after [] left w = refl
+next_after (b ∷ rest) left w = next_after rest left (with_closing b (rest ++ left) w)

@@ -1,18 +1,23 @@
 -- The invariant goes on from one action to the next.
-use Rattle.std.proofs.Common.{◌≡◌, ◌⊎◌, inl, inr, ℕ, ◌+◌, ◌<◌, true, List, [], ◌∷◌, Option, Some}
-use Rattle.std.proofs.Common.{refl, sym, subst, arith}
+use Rattle.std.proofs.Common.{◌≡◌, ◌⊎◌, inl, inr, ℕ, ◌+◌, ◌<◌, ◌≤◌, Bool, true, List, [], ◌∷◌, Option, Some}
+use Rattle.std.proofs.Common.{if◌then◌else◌, refl, sym, ap, subst, arith}
+use Rattle.std.proofs.lemmas.Bool.{eq-eqb}
+use Rattle.au_effects.specs.Values.{Place}
 use Rattle.au_places.specs.Memories.{Memory}
 use Rattle.au_places.specs.Places.{birth}
 use Rattle.au_types.specs.Types.{Meaning}
 use Rattle.au_memory.specs.Forests.{Core, Holds, Made, in_forest, in_list}
 use Rattle.au_memory.specs.Loans.{Types, Loan, Table}
-use Rattle.au_borrows.specs.Invariants.{AreOwned, Inv}
-use Rattle.au_borrows.specs.Laws.{AreOpened, AreParts, BearsOn, BeginsOn, EndsOn, EndsWell, KeepsOn, OpensOn, SpendsOn}
+use Rattle.au_memory.proofs.UsableLemmas.{writer_is_loan}
+use Rattle.au_borrows.specs.Invariants.{AreLinked, AreOwned, Inv}
+use Rattle.au_borrows.specs.Laws.{AreOpened, AreParts, BearsOn, BeginsOn, EndsOn, EndsWell, IsNewPart, IsOpening, KeepsOn, OpensOn}
+use Rattle.au_borrows.specs.Laws.{SpendsOn}
 use Rattle.au_borrows.specs.Laws.{UsesOn}
 use Rattle.au_borrows.specs.Orders.{Act, AreSorted, AreStacked, Lies, is_active}
-use Rattle.au_borrows.specs.Told.{Told}
+use Rattle.au_borrows.specs.Told.{Open, Told, times, with_closings}
+use Rattle.au_borrows.proofs.LinkLemmas.{begun_linked, ended_linked, opened_linked, parts_linked}
 use Rattle.au_borrows.proofs.FitLemmas.{all_closed, ends_once, fits_born, fits_ended, fits_opened, fits_same, fits_spent}
-use Rattle.au_borrows.proofs.FitLemmas.{fits_used, lying_after}
+use Rattle.au_borrows.proofs.FitLemmas.{fits_used, lying_after, next_after}
 use Rattle.au_borrows.proofs.OrderLemmas.{active_cases, active_more, lies_more, lies_now, lies_older, lies_times}
 use Rattle.au_borrows.proofs.OrderLemmas.{stacked_more}
 
@@ -22,12 +27,23 @@ module _ (B : Type 0) (types : Types) (owner : B → Option (List ℕ)) (acts : 
   abbrev count : ℕ → ℕ
   count i = in_forest (birth i) inv.core.top inv.core.forest + in_list (birth i) inv.core.trees
 
+  -- how often a borrow lies open
+  most_once : (b : ℕ) → times b w.lying ≤ 1
+  most_once b =
+      let a = inv.fits.open_now b in
+      let c = inv.fits.inside.opened b in
+      omega (arith, a, c)
+
   parts_owned : (q : Table) → AreParts s q → AreOwned acts w.lying q
-  parts_owned q parts g l row loan on =
-      let p = parts g l row loan in
-      subst (λ b. Lies acts w.lying l.token b) p.5
-      (subst (λ z. Lies acts w.lying z p.1.borrow) p.4
-      (inv.owned p.0 p.1 p.2 p.3 (subst (λ z. is_active acts z ≡ true) (sym p.4) on)))
+  parts_owned q parts g l row loan on = by (parts.each g l row loan)
+    where
+      by : (s g ≡ Some l) ⊎ IsNewPart s g l → Lies acts w.lying l.token l.borrow
+      by (inl old) = inv.owned g l old loan on
+      by (inr new) =
+          subst (λ b. Lies acts w.lying l.token b) new.borrow
+          (subst (λ z. Lies acts w.lying z new.row.borrow) new.token
+          (inv.owned new.from new.row new.has (writer_is_loan new.row.via new.writes)
+          (subst (λ z. is_active acts z ≡ true) (sym new.token) on)))
 
   module _ (clock : ℕ) (others : Holds) (kinds : ℕ → ℕ → Meaning) (now : Made) (q : Table) (n : Memory (List ℕ))
       (after : Core types clock (is_active acts) (is_active acts) others kinds now q n) where
@@ -42,6 +58,7 @@ module _ (B : Type 0) (types : Types) (owner : B → Option (List ℕ)) (acts : 
       stacked = inv.stacked;
       sorted = inv.sorted;
       owned = parts_owned q parts;
+      linked = parts_linked acts w.lying w.next_borrow s inv.linked inv.core.older q parts;
     }
 
     pub bears_on : BearsOn B types owner acts hold type under s m w inv clock others kinds now q n after
@@ -52,6 +69,7 @@ module _ (B : Type 0) (types : Types) (owner : B → Option (List ℕ)) (acts : 
       stacked = inv.stacked;
       sorted = inv.sorted;
       owned = parts_owned q parts;
+      linked = parts_linked acts w.lying w.next_borrow s inv.linked inv.core.older q parts;
     }
 
     pub spends_on : SpendsOn B types owner acts hold type under s m w inv clock others kinds now q n after
@@ -62,33 +80,48 @@ module _ (B : Type 0) (types : Types) (owner : B → Option (List ℕ)) (acts : 
       stacked = inv.stacked;
       sorted = inv.sorted;
       owned = parts_owned q parts;
+      linked = parts_linked acts w.lying w.next_borrow s inv.linked inv.core.older q parts;
     }
 
   -- a loan of the borrow that is opened lies above all others
-  opened_owned : (a : Act) (older : List Act) (q : Table) → acts ≡ a ∷ older → AreOpened a.token w.next_borrow s q
-      → AreOwned acts (w.next_borrow ∷ w.lying) q
-  opened_owned a older q is new g l row loan on = by (new g l row loan)
+  opened_owned : (a : Act) (older : List Act) (q : Table) (writes : Bool) (place : Place) → acts ≡ a ∷ older
+      → AreOpened a.token w.next_borrow writes place s q
+      → AreOwned acts (record { number = w.next_borrow; writes = writes; place = place } ∷ w.lying) q
+  opened_owned a older q writes place is new g l row loan on = by (new.each g l row loan)
     where
-      by : (s g ≡ Some l) ⊎ ((l.token ≡ a.token) × (l.borrow ≡ w.next_borrow))
-          → Lies acts (w.next_borrow ∷ w.lying) l.token l.borrow
-      by (inl old) = lies_more acts w.lying l.token l.borrow w.next_borrow (inv.owned g l old loan on)
+      lying : List Open
+      lying = record { number = w.next_borrow; writes = writes; place = place } ∷ w.lying
+
+      by : (s g ≡ Some l) ⊎ ((g ≡ new.loan) × IsOpening a.token w.next_borrow writes l)
+          → Lies acts lying l.token l.borrow
+      by (inl old) =
+          lies_more acts w.lying l.token l.borrow (record { number = w.next_borrow; writes = writes; place = place })
+          (inv.owned g l old loan on)
       by (inr both) =
-          let here : Lies (a ∷ older) (w.next_borrow ∷ w.lying) a.token w.next_borrow =
-          lies_now a older w.lying w.next_borrow (subst (λ list. AreStacked list w.lying) is inv.stacked) in
-          subst (λ list. Lies list (w.next_borrow ∷ w.lying) l.token l.borrow) (sym is)
-          (subst (λ z. Lies (a ∷ older) (w.next_borrow ∷ w.lying) z l.borrow) (sym both.0)
-          (subst (λ b. Lies (a ∷ older) (w.next_borrow ∷ w.lying) a.token b) (sym both.1) here))
+          let here : Lies (a ∷ older) lying a.token w.next_borrow =
+          lies_now a older w.lying (record { number = w.next_borrow; writes = writes; place = place })
+          (subst (λ list. AreStacked list w.lying) is inv.stacked) in
+          subst (λ list. Lies list lying l.token l.borrow) (sym is)
+          (subst (λ z. Lies (a ∷ older) lying z l.borrow) (sym both.1.token)
+          (subst (λ b. Lies (a ∷ older) lying a.token b) (sym both.1.borrow) here))
+
+  newest_on : (a : Act) (older : List Act) → acts ≡ a ∷ older → is_active acts a.token ≡ true
+  newest_on a older is =
+      subst (λ list. is_active list a.token ≡ true) (sym is)
+      (ap (λ b. if b then true else is_active older a.token) (eq-eqb a.token a.token refl))
 
   pub opens_on : OpensOn B types owner acts hold type under s m w inv
-  opens_on a older clock others kinds now q n is after same new = record {
+  opens_on a older clock others kinds now q n writes place is after same new = record {
     clock = clock;
     core = after;
     fits = fits_opened owner (λ i. in_forest (birth i) after.top after.forest + in_list (birth i) after.trees) w
         (fits_same owner count w inv.fits
-        (λ i. in_forest (birth i) after.top after.forest + in_list (birth i) after.trees) same);
-    stacked = stacked_more acts w.lying w.next_borrow inv.stacked;
+        (λ i. in_forest (birth i) after.top after.forest + in_list (birth i) after.trees) same) writes place;
+    stacked = stacked_more acts w.lying (record { number = w.next_borrow; writes = writes; place = place }) inv.stacked;
     sorted = inv.sorted;
-    owned = opened_owned a older q is new;
+    owned = opened_owned a older q writes place is new;
+    linked = opened_linked acts w.lying w.next_borrow s inv.linked inv.core.older a.token writes place q new
+        (newest_on a older is) after.older;
   }
 
   pub uses_on : UsesOn B types owner acts hold type under s m w inv
@@ -100,6 +133,7 @@ module _ (B : Type 0) (types : Types) (owner : B → Option (List ℕ)) (acts : 
     stacked = inv.stacked;
     sorted = inv.sorted;
     owned = inv.owned;
+    linked = inv.linked;
   }
 
   -- a token that is newer than the clock
@@ -127,6 +161,7 @@ module _ (B : Type 0) (types : Types) (owner : B → Option (List ℕ)) (acts : 
     stacked = (record { newer = []; is = refl }, inv.stacked);
     sorted = (newer_all z less, inv.sorted);
     owned = begun_owned (record { token = z; base = w.lying }) refl (unused z less);
+    linked = begun_linked acts w.lying w.next_borrow s inv.linked inv.core.older (record { token = z; base = w.lying });
   }
 
   -- the loans of older tokens lie below
@@ -154,6 +189,10 @@ module _ (B : Type 0) (types : Types) (owner : B → Option (List ℕ)) (acts : 
         stacked = subst (λ l. AreStacked older l) (sym left) stacked'.1;
         sorted = sorted'.1;
         owned = subst (λ l. AreOwned older l s) (sym left) (ended_owned a older is);
+        linked = subst (λ n. AreLinked older (with_closings newer a.base w).lying n s) (sym (next_after newer a.base w))
+            (subst (λ l. AreLinked older l w.next_borrow s) (sym left)
+            (ended_linked acts w.lying w.next_borrow s inv.linked inv.core.older a older newer is lies inv.owned
+            most_once));
       }
 
   pub ends_well : EndsWell B types owner acts hold type under s m w inv

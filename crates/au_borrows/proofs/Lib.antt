@@ -1,3 +1,4 @@
 pub mod OrderLemmas
 pub mod FitLemmas
+pub mod LinkLemmas
 pub mod InvariantLemmas

@@ -4,20 +4,20 @@ use Rattle.std.proofs.Common.{◌++◌, refl, ap, ◌∙◌, arith}
 use Rattle.std.proofs.lemmas.Bool.{eq-eqb, eqb-true}
 use Rattle.au_events.specs.Counts.{one_if}
 use Rattle.au_borrows.specs.Orders.{Act, AreStacked, Lies, is_active}
-use Rattle.au_borrows.specs.Told.{times}
+use Rattle.au_borrows.specs.Told.{Open, times}
 
 -- ---- lists of borrows
 
-times_join : (b : ℕ) (xs ys : List ℕ) → times b (xs ++ ys) ≡ times b xs + times b ys
+pub times_join : (b : ℕ) (xs ys : List Open) → times b (xs ++ ys) ≡ times b xs + times b ys
 times_join b [] ys = omega arith
 times_join b (x ∷ xs) ys = let rest = times_join b xs ys in omega arith
 
-times_below : (b : ℕ) (lying newer base : List ℕ) → lying ≡ newer ++ base
+pub times_below : (b : ℕ) (lying newer base : List Open) → lying ≡ newer ++ base
     → times b lying ≡ times b newer + times b base
 times_below b lying newer base is = ap (times b) is ∙ times_join b newer base
 
 -- a borrow that lies for a token lies open
-pub lies_times : (acts : List Act) (lying : List ℕ) (z b : ℕ) → AreStacked acts lying → Lies acts lying z b
+pub lies_times : (acts : List Act) (lying : List Open) (z b : ℕ) → AreStacked acts lying → Lies acts lying z b
     → 1 ≤ times b lying
 lies_times [] lying z b stacked lies = absurd lies
 lies_times (a ∷ rest) lying z b stacked (inl both) =
@@ -33,7 +33,7 @@ lies_times (a ∷ rest) lying z b stacked (inr pair) =
 
 -- ---- one more borrow
 
-pub lies_more : (acts : List Act) (lying : List ℕ) (z b n : ℕ) → Lies acts lying z b → Lies acts (n ∷ lying) z b
+pub lies_more : (acts : List Act) (lying : List Open) (z b : ℕ) (n : Open) → Lies acts lying z b → Lies acts (n ∷ lying) z b
 lies_more [] lying z b n lies = absurd lies
 lies_more (a ∷ rest) lying z b n (inl both) =
     let above = both.1 in
@@ -48,11 +48,11 @@ lies_more (a ∷ rest) lying z b n (inl both) =
     )
 lies_more (a ∷ rest) lying z b n (inr pair) = inr pair
 
-pub lies_now : (a : Act) (rest : List Act) (lying : List ℕ) (b : ℕ) → AreStacked (a ∷ rest) lying
-    → Lies (a ∷ rest) (b ∷ lying) a.token b
+pub lies_now : (a : Act) (rest : List Act) (lying : List Open) (b : Open) → AreStacked (a ∷ rest) lying
+    → Lies (a ∷ rest) (b ∷ lying) a.token b.number
 lies_now a rest lying b stacked =
     let below = stacked.0 in
-    let own : one_if (b == b) ≡ 1 = ap one_if (eq-eqb b b refl) in
+    let own : one_if (b.number == b.number) ≡ 1 = ap one_if (eq-eqb b.number b.number refl) in
     inl (
       refl,
       record {
@@ -62,7 +62,7 @@ lies_now a rest lying b stacked =
       },
     )
 
-pub stacked_more : (acts : List Act) (lying : List ℕ) (n : ℕ) → AreStacked acts lying → AreStacked acts (n ∷ lying)
+pub stacked_more : (acts : List Act) (lying : List Open) (n : Open) → AreStacked acts lying → AreStacked acts (n ∷ lying)
 stacked_more [] lying n stacked = tt
 stacked_more (a ∷ rest) lying n stacked =
     let below = stacked.0 in
@@ -88,7 +88,7 @@ active_more a rest z h = by (a.token == z)
     by false = h
 
 -- what lies for an older token than the newest lies below what the newest began with
-pub lies_older : (a : Act) (rest : List Act) (lying : List ℕ) (z b : ℕ) → (z ≡ a.token → ⊥)
+pub lies_older : (a : Act) (rest : List Act) (lying : List Open) (z b : ℕ) → (z ≡ a.token → ⊥)
     → Lies (a ∷ rest) lying z b → Lies rest a.base z b
 lies_older a rest lying z b differ (inl both) = absurd (differ both.0)
 lies_older a rest lying z b differ (inr pair) = pair.1

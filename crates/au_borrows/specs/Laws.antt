@@ -1,7 +1,8 @@
 -- How the invariant goes on from one action to the next: what an action makes of memory, what it tells, and the
 -- rows that it adds.
-use Rattle.std.specs.Prelude.{◌≡◌, ◌⊎◌, ℕ, ◌+◌, ◌<◌, ◌==◌, true}
-use Rattle.std.specs.Prelude.{List, [], ◌∷◌, ◌++◌, Option, Some}
+use Rattle.std.specs.Prelude.{◌≡◌, ◌⊎◌, ℕ, ◌+◌, ◌<◌, ◌≤◌, ◌==◌, Bool, true}
+use Rattle.std.specs.Prelude.{List, [], ◌∷◌, ◌++◌, Option, Some, None}
+use Rattle.au_effects.specs.Values.{Place}
 use Rattle.au_effects.specs.Worlds.{born}
 use Rattle.au_events.specs.Counts.{one_if}
 use Rattle.au_events.specs.Events.{AllClosed, Once}
@@ -10,22 +11,50 @@ use Rattle.au_places.specs.Memories.{Memory}
 use Rattle.au_places.specs.Places.{birth}
 use Rattle.au_types.specs.Types.{Meaning}
 use Rattle.au_memory.specs.Forests.{Core, Holds, Made, in_forest, in_list}
-use Rattle.au_memory.specs.Loans.{Types, Loan, Table, IsLoan}
-use Rattle.au_borrows.specs.Invariants.{Inv}
+use Rattle.au_memory.specs.Loans.{Types, Loan, Table, Grows, part_of, IsLoan, IsWriter}
+use Rattle.au_borrows.specs.Invariants.{Inv, is_writer}
 use Rattle.au_borrows.specs.Orders.{Act, is_active}
-use Rattle.au_borrows.specs.Told.{Told, with_birth, with_closings, with_end, with_opening, with_use}
+use Rattle.au_borrows.specs.Told.{Open, Told, with_birth, with_closings, with_end, with_opening, with_use}
 
--- Each loan of a table is one of another, or of the borrow and the token of one of that.
-abbrev pub AreParts : Table → Table → Type 0
-AreParts s q =
-    (g : ℕ) (l : Loan) → q g ≡ Some l → IsLoan l.via
-    → (h : ℕ) × (n : Loan) × (s h ≡ Some n) × IsLoan n.via × (n.token ≡ l.token) × (n.borrow ≡ l.borrow)
+-- a number from which on a table has no rows
+abbrev pub EndsBefore : Table → ℕ → Type 0
+EndsBefore s g = (j : ℕ) → g ≤ j → s j ≡ None
 
--- Each loan of a table is one of another, or of this token and this borrow.
-abbrev pub AreOpened : ℕ → ℕ → Table → Table → Type 0
-AreOpened z b s q =
-    (g : ℕ) (l : Loan) → q g ≡ Some l → IsLoan l.via
-    → (s g ≡ Some l) ⊎ ((l.token ≡ z) × (l.borrow ≡ b))
+-- A loan that is new is a part of one of a table that writes, of its borrow and its token.
+pub record IsNewPart (s : Table) (g : ℕ) (l : Loan) : Type 0 where
+  pub from : ℕ
+  pub row : Loan
+  pub has : s from ≡ Some row
+  pub writes : IsWriter row.via
+  pub via : l.via ≡ part_of from
+  pub token : row.token ≡ l.token
+  pub borrow : row.borrow ≡ l.borrow
+  pub fresh : EndsBefore s g
+
+-- A table has the rows of another, and its other loans are new parts.
+pub record AreParts (s q : Table) : Type 0 where
+  pub grows : Grows s q
+  pub each : (g : ℕ) (l : Loan) → q g ≡ Some l → IsLoan l.via → (s g ≡ Some l) ⊎ IsNewPart s g l
+
+-- A loan is the one of a borrow that is opened, for this token: it is no part.
+pub record IsOpening (z b : ℕ) (writes : Bool) (l : Loan) : Type 0 where
+  pub token : l.token ≡ z
+  pub borrow : l.borrow ≡ b
+  pub kind : is_writer l.via ≡ writes
+  pub is_loan : IsLoan l.via
+  pub no_part : (from : ℕ) → l.via ≡ part_of from → ⊥
+
+-- A table has the rows of another, and one loan more, that of a borrow that is opened.
+pub record AreOpened (z b : ℕ) (writes : Bool) (place : Place) (s q : Table) : Type 0 where
+  pub grows : Grows s q
+  pub loan : ℕ
+  pub row : Loan
+  pub has : q loan ≡ Some row
+  pub is : IsOpening z b writes row
+  pub at : row.to ≡ place
+  pub each : (g : ℕ) (l : Loan) → q g ≡ Some l → IsLoan l.via
+      → (s g ≡ Some l) ⊎ ((g ≡ loan) × IsOpening z b writes l)
+  pub fresh : EndsBefore s loan
 
 module _ (B : Type 0) (types : Types) (owner : B → Option (List ℕ)) (acts : List Act) (hold : Holds)
     (type : ℕ → ℕ → Meaning) (under : Made) (s : Table) (m : Memory (List ℕ)) (w : Told B)
@@ -63,10 +92,11 @@ module _ (B : Type 0) (types : Types) (owner : B → Option (List ℕ)) (acts : 
   abbrev pub OpensOn : Type 0
   OpensOn =
       (a : Act) (older : List Act) (clock : ℕ) (others : Holds) (kinds : ℕ → ℕ → Meaning) (now : Made)
-      (q : Table) (n : Memory (List ℕ)) → acts ≡ a ∷ older
+      (q : Table) (n : Memory (List ℕ)) (writes : Bool) (place : Place) → acts ≡ a ∷ older
       → (after : Core types clock (is_active acts) (is_active acts) others kinds now q n)
       → ((i : ℕ) → in_forest (birth i) after.top after.forest + in_list (birth i) after.trees ≡ held i)
-      → AreOpened a.token w.next_borrow s q → Inv types owner acts others kinds now q n (with_opening w)
+      → AreOpened a.token w.next_borrow writes place s q
+      → Inv types owner acts others kinds now q n (with_opening writes place w)
 
   -- a use of a loan whose token is active,
   abbrev pub UsesOn : Type 0
@@ -86,7 +116,7 @@ module _ (B : Type 0) (types : Types) (owner : B → Option (List ℕ)) (acts : 
   -- The end of the newest token closes the borrows that were opened since it began.
   abbrev pub EndsOn : Type 0
   EndsOn =
-      (a : Act) (older : List Act) (clock : ℕ) (others : Holds) (newer : List ℕ) → acts ≡ a ∷ older
+      (a : Act) (older : List Act) (clock : ℕ) (others : Holds) (newer : List Open) → acts ≡ a ∷ older
       → w.lying ≡ newer ++ a.base
       → (after : Core types clock (is_active older) (is_active older) others type under s m)
       → ((i : ℕ) → in_forest (birth i) after.top after.forest + in_list (birth i) after.trees ≡ held i)

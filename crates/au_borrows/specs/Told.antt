@@ -1,22 +1,38 @@
 -- What is told of a running program, and how it fits together: births balance with what is held, and the borrows that
 -- lie open are those that were opened and aren't closed.
-use Rattle.std.specs.Prelude.{◌≡◌, ℕ, suc, ◌+◌, ◌==◌, List, [], ◌∷◌, ◌++◌, Option, nat_lt}
+use Rattle.std.specs.Prelude.{◌≡◌, ◌⊎◌, ℕ, suc, ◌+◌, ◌==◌, Bool, List, [], ◌∷◌, ◌++◌, map, Option, nat_lt}
+use Rattle.au_effects.specs.Values.{Place}
 use Rattle.au_effects.specs.Worlds.{Deed, born, closed, consumed, opened, used}
 use Rattle.au_events.specs.Counts.{births, closings, ends, one_if, openings}
 use Rattle.au_events.specs.Events.{AtMostOnce, Inside, OwnMade}
+
+-- a borrow that lies open: its number, whether it writes, and its place
+pub record Open : Type 0 where
+  pub number : ℕ
+  pub writes : Bool
+  pub place : Place
+
+-- their numbers
+abbrev pub numbers : List Open → List ℕ
+numbers lying = map (λ (one : Open). one.number) lying
 
 -- What is told so far, with the numbers of the next birth and of the next borrow, and the borrows that lie open, the
 -- newest first.
 pub record Told (B : Type 0) : Type 0 where
   pub next_birth : ℕ
   pub next_borrow : ℕ
-  pub lying : List ℕ
+  pub lying : List Open
   pub events : List (Deed B)
 
--- how often a number is in a list
-abbrev pub times : ℕ → List ℕ → ℕ
+-- how often a number is that of a borrow in a list
+abbrev pub times : ℕ → List Open → ℕ
 times b [] = 0
-times b (c ∷ rest) = one_if (c == b) + times b rest
+times b (c ∷ rest) = one_if (c.number == b) + times b rest
+
+-- a borrow is one of a list
+abbrev pub IsOpen : Open → List Open → Type 0
+IsOpen one [] = ⊥
+IsOpen one (c ∷ rest) = (c ≡ one) ⊎ IsOpen one rest
 
 module _ {B : Type 0} where
   -- one more birth, with its home
@@ -30,11 +46,11 @@ module _ {B : Type 0} where
   abbrev pub with_end : ℕ → Told B → Told B
   with_end i w = record w { events = w.events ++ consumed i ∷ [] }
 
-  -- one more borrow lies open
-  abbrev pub with_opening : Told B → Told B
-  with_opening w = record w {
+  -- one more borrow lies open, which writes or doesn't, and has this place
+  abbrev pub with_opening : Bool → Place → Told B → Told B
+  with_opening writes place w = record w {
     next_borrow = suc w.next_borrow;
-    lying = w.next_borrow ∷ w.lying;
+    lying = record { number = w.next_borrow; writes = writes; place = place } ∷ w.lying;
     events = w.events ++ opened w.next_borrow ∷ [];
   }
 
@@ -43,11 +59,11 @@ module _ {B : Type 0} where
   with_use b w = record w { events = w.events ++ used b ∷ [] }
 
   -- a borrow is closed, and these still lie open
-  abbrev pub with_closing : ℕ → List ℕ → Told B → Told B
-  with_closing b left w = record w { lying = left; events = w.events ++ closed b ∷ [] }
+  abbrev pub with_closing : Open → List Open → Told B → Told B
+  with_closing b left w = record w { lying = left; events = w.events ++ closed b.number ∷ [] }
 
   -- borrows are closed, in this order, and then these still lie open
-  abbrev pub with_closings : List ℕ → List ℕ → Told B → Told B
+  abbrev pub with_closings : List Open → List Open → Told B → Told B
   with_closings [] left w = w
   with_closings (b ∷ rest) left w = with_closings rest left (with_closing b (rest ++ left) w)
 

@@ -26,6 +26,7 @@ seen_sound owner seen well = record {
   own = well.own;
   consumed = λ b is. (subst (EndsWell seen.world) is well.ended).0;
   closed = λ b is. (subst (EndsWell seen.world) is well.ended).1;
+  exclusive = λ is. subst (EndsWell seen.world) is well.ended;
 }
 
 module _ (files : Files) (names all : List (List ℕ)) (reads : List ReadFile) (a : AreAcceptedAs files names all reads)

@@ -7,12 +7,13 @@ use Rattle.au_events.specs.Events.{AllClosed, AtMostOnce, Inside, Once, OwnMade}
 use Rattle.au_modules.specs.Programs.{ModuleParts}
 use Rattle.au_names.specs.declared.targets.Target.{Target}
 use Rattle.au_meaning.specs.Meanings.{mean}
-use Rattle.au_meaning.specs.Worlds.{Event, Outcome, exit, stuck}
+use Rattle.au_meaning.specs.Worlds.{Event, Outcome, exit, running, stuck}
 use Rattle.au_closed_meanings.specs.Numbers.{first_name}
 use Rattle.au_closing_laws.specs.Accepted.{AreAcceptedAs}
 use Rattle.au_closing_laws.specs.Programs.{program_modules}
 use Rattle.au_closing_laws.specs.Trees.{ReadFile}
 use Rattle.au_owners.specs.Owners.{owner_of}
+use Rattle.au_safe_steps.specs.Exclusive.{IsExclusive}
 use Rattle.au_judged_bodies.specs.Entries.{begins, entry_of}
 use Rattle.au_judged_bodies.specs.Generic.{generic_functions}
 use Rattle.au_judged_bodies.specs.Trees.{NotedParts}
@@ -45,6 +46,9 @@ pub record RunIsSound (owner : ClosedType → Option (List ℕ)) (seen : Outcome
   pub consumed : (well : Bool) → seen.ending ≡ exit well → Once (told seen)
   -- and each borrow was closed
   pub closed : (well : Bool) → seen.ending ≡ exit well → AllClosed (told seen)
+  -- where it is cut off, before whichever of its ticks: of the references that are held for one open write borrow no two
+  -- have overlapping places, and none has one that overlaps that of an open read borrow
+  pub exclusive : seen.ending ≡ running → IsExclusive seen.world
 
 -- what a program with notes does from an entry on an input, for at most so many ticks
 abbrev pub run_of : List ModuleParts → List NotedParts → Target → List ℕ → ℕ → Outcome

@@ -456,6 +456,7 @@ module _ (types : Types) (forms : AreDeclared types) (cases : CasesAreAlone type
             loan = loan;
             row = row;
             has = form.has;
+            writer = form.writes;
             typed = of_type;
             of_token = of_token;
             leads = leads;
@@ -555,6 +556,7 @@ module _ (types : Types) (forms : AreDeclared types) (cases : CasesAreAlone type
             loan = loan;
             row = row;
             has = form.has;
+            writer = form.writes;
             typed = of_type;
             of_token = of_token;
             leads = leads;

@@ -173,6 +173,7 @@ module _ (types : Types) (forms : AreDeclared types) (boxes : BoxesAreAlone type
     row = l;
     born = inner.born;
     has = form.has;
+    writer = form.writes;
     typed = of_type;
     of_token = of_token;
     leads = leads;

@@ -9,7 +9,7 @@ use Rattle.au_types.specs.Types.{Meaning, reads, writes}
 use Rattle.au_memory.specs.Forests.{Core, Hold, Holds, Made, whole, empty, ready, shut, watched}
 use Rattle.au_memory.specs.Forests.{in_forest, in_list}
 use Rattle.au_memory.specs.Forests.{IsHere, LendsAll}
-use Rattle.au_memory.specs.Loans.{Types, Loan, Table, Via, lent_of, lent_through, part_of, reading}
+use Rattle.au_memory.specs.Loans.{Types, IsWriter, Loan, Table, Via, lent_of, lent_through, part_of, reading}
 use Rattle.au_memory.specs.Shown.{Shows, Has, AreDeclared, AreLawful}
 use Rattle.au_memory.specs.Trees.{Value, Tree, in_birth, in_tree, in_writer}
 use Rattle.au_lending.specs.Holding.{name_row, with_hold, with_name, with_row, with_token}
@@ -297,6 +297,7 @@ module _ (types : Types) (clock : ℕ) (scope act : ℕ → Bool) (hold : Holds)
     pub row : Loan
     pub born : ℕ
     pub has : s loan ≡ Some row
+    pub writer : IsWriter row.via
     pub typed : t ≡ row.type
     pub of_token : z ≡ row.token
     pub leads : r ≡ reference row.borrow row.to

@@ -6,7 +6,7 @@ use Rattle.au_places.specs.Places.{Id, birth, part_at}
 use Rattle.au_running_types.specs.Running.{token}
 use Rattle.au_types.specs.Types.{Meaning, writes}
 use Rattle.au_memory.specs.Forests.{Core, Holds, IsHere, Made, whole, in_forest, in_list}
-use Rattle.au_memory.specs.Loans.{Types, Loan, Table, part_of}
+use Rattle.au_memory.specs.Loans.{Types, IsWriter, Loan, Table, part_of}
 use Rattle.au_memory.specs.Shown.{AreDeclared}
 use Rattle.au_memory.specs.Trees.{Tree, Value}
 use Rattle.au_lending.specs.Holding.{with_row}
@@ -45,6 +45,7 @@ module _ (types : Types) (clock : ℕ) (scope act : ℕ → Bool) (hold : Holds)
     pub loan : ℕ
     pub row : Loan
     pub has : s loan ≡ Some row
+    pub writer : IsWriter row.via
     pub typed : t ≡ row.type
     pub of_token : z ≡ row.token
     pub leads : r ≡ reference row.borrow row.to

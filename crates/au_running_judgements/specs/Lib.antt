@@ -5,6 +5,7 @@ pub use Rattle.au_safe_steps.specs.Frames
 pub use Rattle.au_safe_steps.specs.Sound
 pub use Rattle.au_safe_steps.specs.Behind
 pub use Rattle.au_safe_steps.specs.Closing
+pub use Rattle.au_safe_steps.specs.Exclusive
 pub use Rattle.au_safe_steps.specs.Good
 pub use Rattle.au_safe_steps.specs.Lending
 pub use Rattle.au_safe_steps.specs.Making

@@ -8,8 +8,8 @@ use Rattle.au_type_texts.specs.Types.{ClosedType}
 use Rattle.au_memory.specs.Forests.{Made}
 use Rattle.au_memory.specs.Loans.{Types}
 use Rattle.au_lending.specs.Ending.{freed}
-use Rattle.au_borrows.specs.Orders.{Act}
-use Rattle.au_borrows.specs.Told.{with_closings}
+use Rattle.au_borrows.specs.Orders.{Act, Lying}
+use Rattle.au_borrows.specs.Told.{numbers, with_closings}
 use Rattle.au_frames.proofs.EndLemmas as acting
 use Rattle.au_frames.proofs.StartLemmas.{agrees}
 use Rattle.au_agreeing.specs.Stores.{memory_of, sizes_of, told_of}
@@ -19,7 +19,7 @@ use Rattle.au_meaning.specs.Acts.{closed_to}
 use Rattle.au_meaning.specs.Worlds.{Borrow, Store, World}
 use Rattle.au_sound_calls.proofs.SoundLemmas.{sound_as, told_memory}
 use Rattle.au_safe_acts.specs.Closing.{TokensBegin, TokensEnd, freed_frames}
-use Rattle.au_safe_acts.specs.Good.{IsIn, lying_in}
+use Rattle.au_safe_acts.specs.Good.{IsIn, lying_in, open_of}
 
 -- ---- lists
 
@@ -52,6 +52,10 @@ length_both (x ∷ xs) ys = let rest = length_both xs ys in omega arith
 -- the number of a borrow
 abbrev number_of : Borrow → ℕ
 number_of one = one.number
+
+same_numbers : (xs : List Borrow) → map number_of xs ≡ numbers (map open_of xs)
+same_numbers [] = refl
+same_numbers (x ∷ xs) = ap (λ ns. x.number ∷ ns) (same_numbers xs)
 
 -- ---- closing
 
@@ -108,24 +112,24 @@ module _ (types : Types) (owner : ClosedType → Option (List ℕ)) (acts : List
       )
 
   -- the borrows that are closed where the newest token ends, and those that are left
-  module _ (a : Act) (older : List Act) (newest : List ℕ) (lies : lying_in w ≡ newest ++ a.base) where
+  module _ (a : Act) (older : List Act) (newest : Lying) (lies : lying_in w ≡ newest ++ a.base) where
     left : length w.borrows - length a.base ≡ length newest
     left =
-        let many = sym (length_map number_of w.borrows) ∙ ap (λ (xs : List ℕ). length xs) lies
+        let many = sym (length_map open_of w.borrows) ∙ ap (λ (xs : Lying). length xs) lies
         ∙ length_both newest a.base in
         omega arith
 
-    front : map number_of (newer (length a.base) w.borrows) ≡ newest
+    front : map open_of (newer (length a.base) w.borrows) ≡ newest
     front =
-        take_map number_of (length w.borrows - length a.base) w.borrows
-        ∙ ap (λ (xs : List ℕ). take (length w.borrows - length a.base) xs) lies
+        take_map open_of (length w.borrows - length a.base) w.borrows
+        ∙ ap (λ (xs : Lying). take (length w.borrows - length a.base) xs) lies
         ∙ ap (λ (n : ℕ). take n (newest ++ a.base)) left
         ∙ take_front newest a.base
 
-    back : map number_of (oldest (length a.base) w.borrows) ≡ a.base
+    back : map open_of (oldest (length a.base) w.borrows) ≡ a.base
     back =
-        drop_map number_of (length w.borrows - length a.base) w.borrows
-        ∙ ap (λ (xs : List ℕ). drop (length w.borrows - length a.base) xs) lies
+        drop_map open_of (length w.borrows - length a.base) w.borrows
+        ∙ ap (λ (xs : Lying). drop (length w.borrows - length a.base) xs) lies
         ∙ ap (λ (n : ℕ). drop n (newest ++ a.base)) left
         ∙ drop_front newest a.base
 
@@ -143,12 +147,13 @@ module _ (types : Types) (owner : ClosedType → Option (List ℕ)) (acts : List
       (told_of (lying_in w) s) a older acts_are state.safe in
       let lies : lying_in w ≡ done.0 ++ a.base = done.1 in
       let bs = map number_of (newer (length a.base) w.borrows) in
-      let left = map number_of (oldest (length a.base) w.borrows) in
+      let left = map open_of (oldest (length a.base) w.borrows) in
       let told : told_of left (closes bs s) ≡ with_closings done.0 a.base (told_of (lying_in w) s) =
-      ap (λ (xs : List ℕ). told_of xs (closes bs s)) (back a older done.0 lies)
-      ∙ ap (λ (xs : List ℕ). told_of a.base (closes xs s)) (front a older done.0 lies)
+      ap (λ (xs : Lying). told_of xs (closes bs s)) (back a older done.0 lies)
+      ∙ ap (λ (ns : List ℕ). told_of a.base (closes ns s)) (same_numbers (newer (length a.base) w.borrows))
+      ∙ ap (λ (xs : Lying). told_of a.base (closes (numbers xs) s)) (front a older done.0 lies)
       ∙ closed_told s state.keeps done.0 a.base
-      ∙ ap (λ (xs : List ℕ). with_closings done.0 a.base (told_of xs s)) (sym lies) in
+      ∙ ap (λ (xs : Lying). with_closings done.0 a.base (told_of xs s)) (sym lies) in
       let safe = agrees ClosedType types owner older (λ frame x. freed a.token (hold_at fs frame x)) (type_at fs) under
       (memory_of s) (with_closings done.0 a.base (told_of (lying_in w) s)) (hold_at (freed_frames a.token fs))
       (type_at (freed_frames a.token fs)) (memory_of s) (freed_hold a.token fs)

@@ -8,7 +8,7 @@ use Rattle.au_frames.specs.Frames.{Frame}
 use Rattle.au_meaning.specs.Acts.{frame_in}
 use Rattle.au_meaning.specs.Ticks.{Action, Out, aborts, cut, follows, gives, needing, no_rule, tick, ticked}
 use Rattle.au_meaning.specs.Worlds.{Value, World}
-use Rattle.au_safe_acts.specs.Good.{Good, IsOrderly, IsRunning}
+use Rattle.au_safe_acts.specs.Good.{Good, IsCutWell, IsRunning}
 
 -- ---- one action, and then another
 
@@ -23,7 +23,7 @@ good_then owner mid q (no_rule w left) go good next = absurd good
 
 -- a tick, and then an action
 pub good_tick : {A : Type 0} (owner : ClosedType → Option (List ℕ)) (q : A → World → Type 0) (m : Action A) (w : World)
-    (ticks : ℕ) → IsOrderly owner w → ((left : ℕ) → Good owner q (m w left)) → Good owner q (tick m w ticks)
+    (ticks : ℕ) → IsCutWell owner w → ((left : ℕ) → Good owner q (m w left)) → Good owner q (tick m w ticks)
 unfolding ticked
 good_tick owner q m w zero told next = told
 good_tick owner q m w (suc left) told next = next left

@@ -1,5 +1,5 @@
 -- Borrows that the meaning opens.
-use Rattle.std.proofs.Common.{◌≡◌, ℕ, List, [], ◌∷◌, length, Option, Some, refl, sym, ap, subst, ◌∙◌}
+use Rattle.std.proofs.Common.{◌≡◌, ℕ, true, false, List, [], ◌∷◌, length, Option, Some, refl, sym, ap, subst, ◌∙◌}
 use Rattle.au_effects.specs.Parts.{along}
 use Rattle.au_effects.specs.Places.{base_at}
 use Rattle.au_effects.specs.References.{name_along, reference_at, reference_in}
@@ -29,7 +29,7 @@ use Rattle.au_meaning.specs.Acts.{frame_in, with_borrow}
 use Rattle.au_meaning.specs.Ticks.{asks, does, follows, needing, pure, ◌>>=◌, ◌>>◌}
 use Rattle.au_meaning.specs.Worlds.{Store, Value, World}
 use Rattle.au_sound_calls.proofs.SoundLemmas.{sound_as}
-use Rattle.au_safe_acts.specs.Good.{Good, IsIn, lying_in}
+use Rattle.au_safe_acts.specs.Good.{Good, IsIn, lying_in, writes_to}
 use Rattle.au_safe_acts.specs.Lending.{LendsWell, ReadsWell, RelendsWell}
 use Rattle.au_safe_acts.proofs.GoodLemmas.{frame_is}
 use Rattle.au_safe_acts.proofs.NameLemmas.{stands}
@@ -56,12 +56,13 @@ module _ (types : Types) (owner : ClosedType → Option (List ℕ)) (acts : List
   -- a world in which one more borrow lies open
   opened_in : (g : Frame) (made : Made) (how : Access) (to : Place)
       → (state : IsIn types owner acts (f ∷ fs) sizes under w)
-      → IsSafe types owner acts (hold_at (g ∷ fs)) (type_at (g ∷ fs)) made m (with_opening u)
+      → IsSafe types owner acts (hold_at (g ∷ fs)) (type_at (g ∷ fs)) made m (with_opening (writes_to how) to u)
       → IsIn types owner acts (g ∷ fs) sizes made (with_borrow how to w)
   opened_in g made how to state safe =
-      sound_as ClosedType types owner acts (hold_at (g ∷ fs)) (type_at (g ∷ fs)) made (w.store.borrows ∷ lying_in w) sizes
-      (opens w.store) m (with_opening u) state.keeps state.sized (opened_memory w.store)
-      (opened_told w.store state.keeps (lying_in w)) safe
+      sound_as ClosedType types owner acts (hold_at (g ∷ fs)) (type_at (g ∷ fs)) made
+      (record { number = w.store.borrows; writes = writes_to how; place = to } ∷ lying_in w) sizes (opens w.store) m
+      (with_opening (writes_to how) to u) state.keeps state.sized (opened_memory w.store)
+      (opened_told w.store state.keeps (lying_in w) (writes_to how) to) safe
 
   pub lends_well : LendsWell types owner acts f fs sizes size under w ticks
   unfolding follows
@@ -71,18 +72,18 @@ module _ (types : Types) (owner : ClosedType → Option (List ℕ)) (acts : List
       k x (own_hold f fs x ∙ is) state.safe in
       let typed = subst (λ t. IsSafe types owner acts (with_hold k x (shut a.token) (hold_at (f ∷ fs)))
       (type_at (f ∷ fs))
-      ((reference u.next_borrow (name_along k x []), meaning.writes t (token a.token)) ∷ under) m (with_opening u))
+      ((reference u.next_borrow (name_along k x []), meaning.writes t (token a.token)) ∷ under) m (with_opening true (name_along k x []) u))
       (own_type f fs x) done in
       let placed = subst (λ n. IsSafe types owner acts (with_hold k x (shut a.token) (hold_at (f ∷ fs)))
       (type_at (f ∷ fs))
       ((reference u.next_borrow (name_along n x []), meaning.writes (f.type x) (token a.token)) ∷ under) m
-      (with_opening u)) (sym frame) typed in
+      (with_opening true (name_along n x []) u)) (sym frame) typed in
       opened_in (standing x (shut a.token) f)
       ((reference w.store.borrows (name_along (frame_in w) x []), meaning.writes (f.type x) (token a.token)) ∷ under)
       access.Write (name_along (frame_in w) x []) state
       (stands types owner acts f fs
       ((reference u.next_borrow (name_along (frame_in w) x []), meaning.writes (f.type x) (token a.token)) ∷ under) m
-      (with_opening u) x (shut a.token) placed)
+      (with_opening true (name_along (frame_in w) x []) u) x (shut a.token) placed)
 
   pub reads_well : ReadsWell types owner acts f fs sizes size under w ticks
   unfolding follows
@@ -94,20 +95,20 @@ module _ (types : Types) (owner : ClosedType → Option (List ℕ)) (acts : List
       let held = subst (λ h. IsSafe types owner acts (with_hold k x (also_watched a.token h) (hold_at (f ∷ fs)))
       (type_at (f ∷ fs))
       ((reference u.next_borrow (name_along k x []), meaning.reads (type_at (f ∷ fs) k x) (token a.token)) ∷ under) m
-      (with_opening u)) (own_hold f fs x) done in
+      (with_opening false (name_along k x []) u)) (own_hold f fs x) done in
       let h = also_watched a.token (f.hold x) in
       let typed = subst (λ t. IsSafe types owner acts (with_hold k x h (hold_at (f ∷ fs))) (type_at (f ∷ fs))
-      ((reference u.next_borrow (name_along k x []), meaning.reads t (token a.token)) ∷ under) m (with_opening u))
+      ((reference u.next_borrow (name_along k x []), meaning.reads t (token a.token)) ∷ under) m (with_opening false (name_along k x []) u))
       (own_type f fs x) held in
       let placed = subst (λ n. IsSafe types owner acts (with_hold k x h (hold_at (f ∷ fs))) (type_at (f ∷ fs))
       ((reference u.next_borrow (name_along n x []), meaning.reads (f.type x) (token a.token)) ∷ under) m
-      (with_opening u)) (sym frame) typed in
+      (with_opening false (name_along n x []) u)) (sym frame) typed in
       opened_in (standing x h f)
       ((reference w.store.borrows (name_along (frame_in w) x []), meaning.reads (f.type x) (token a.token)) ∷ under)
       access.Read (name_along (frame_in w) x []) state
       (stands types owner acts f fs
       ((reference u.next_borrow (name_along (frame_in w) x []), meaning.reads (f.type x) (token a.token)) ∷ under) m
-      (with_opening u) x h placed)
+      (with_opening false (name_along (frame_in w) x []) u) x h placed)
 
   pub relends_well : RelendsWell types owner acts f fs sizes size under w ticks
   unfolding follows
@@ -121,7 +122,7 @@ module _ (types : Types) (owner : ClosedType → Option (List ℕ)) (acts : List
       let last = opened_in (standing x (shut a.token) f)
       ((reference w.store.borrows done.1, meaning.writes t (token a.token)) ∷ under) access.Write done.1 state
       (stands types owner acts f fs ((reference u.next_borrow done.1, meaning.writes t (token a.token)) ∷ under) m
-      (with_opening u) x (shut a.token) done.3) in
+      (with_opening true done.1 u) x (shut a.token) done.3) in
       subst (λ o. Good owner (λ (v : Value) n. IsIn types owner acts (standing x (shut a.token) f ∷ fs) sizes
       ((v, meaning.writes t (token a.token)) ∷ under) n)
       (follows (needing (along o (λ one. Some one.1)) pure w ticks)

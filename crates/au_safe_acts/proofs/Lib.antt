@@ -9,6 +9,7 @@ pub use Rattle.au_sound_calls.proofs.GrantLemmas
 pub use Rattle.au_sound_calls.proofs.OperationLemmas
 pub use Rattle.au_sound_calls.proofs.PrintLemmas
 pub use Rattle.au_sound_calls.proofs.SoundLemmas
+pub mod ExclusiveLemmas
 pub mod GoodLemmas
 pub mod NameLemmas
 pub mod CloseLemmas

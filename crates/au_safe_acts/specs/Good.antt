@@ -1,18 +1,30 @@
 -- What actions of the meaning come to, where they are safe.
-use Rattle.std.specs.Prelude.{◌≡◌, ℕ, suc, ◌≤◌, List, length, map, slice_get, Option, Some}
+use Rattle.std.specs.Prelude.{◌≡◌, ℕ, suc, ◌≤◌, Bool, true, false, List, length, map, slice_get, Option, Some}
+use Rattle.au_syntax.specs.declared.types.Access.{Access}
+use Rattle.au_syntax.specs.declared.types.Access.TheVariants.{Read, Write}
 use Rattle.au_events.specs.Events.{AtMostOnce, Inside, OwnMade}
 use Rattle.au_memory.specs.Forests.{Made}
 use Rattle.au_memory.specs.Loans.{Types}
 use Rattle.au_type_texts.specs.Types.{ClosedType}
-use Rattle.au_borrows.specs.Orders.{Act}
+use Rattle.au_borrows.specs.Orders.{Act, Lying}
+use Rattle.au_borrows.specs.Told.{Open}
 use Rattle.au_frames.specs.Frames.{Frame, hold_at, type_at}
 use Rattle.au_meaning.specs.Ticks.{Out, aborts, cut, gives, no_rule}
 use Rattle.au_meaning.specs.Worlds.{Borrow, World}
 use Rattle.au_sound_calls.specs.Sound.{IsSound}
+use Rattle.au_safe_acts.specs.Exclusive.{IsExclusive}
+
+-- a borrow of the world as one that lies open
+abbrev pub writes_to : Access → Bool
+writes_to Read = false
+writes_to Write = true
+
+abbrev pub open_of : Borrow → Open
+open_of one = record { number = one.number; writes = writes_to one.access; place = one.place }
 
 -- the borrows that lie open, the newest first
-abbrev pub lying_in : World → List ℕ
-lying_in w = map (λ (one : Borrow). one.number) w.borrows
+abbrev pub lying_in : World → Lying
+lying_in w = map open_of w.borrows
 
 -- The newest frame is the running one, with so many names at least.
 pub record IsRunning (sizes : List ℕ) (fs : List Frame) (size : ℕ) : Type 0 where
@@ -30,10 +42,14 @@ IsIn types owner acts fs sizes under w =
 abbrev pub IsOrderly : (ClosedType → Option (List ℕ)) → World → Type 0
 IsOrderly owner w = AtMostOnce w.store.deeds × Inside w.store.deeds × OwnMade owner w.store.deeds
 
--- An action comes to something good: what it gives and the world that it leaves are so; or it aborts, or is cut, in a
--- world that was told well. There is a rule for it.
+-- A world is as it should be where its run is cut off: what was told of it is, and its borrows are exclusive.
+abbrev pub IsCutWell : (ClosedType → Option (List ℕ)) → World → Type 0
+IsCutWell owner w = IsOrderly owner w × IsExclusive w
+
+-- An action comes to something good: what it gives and the world that it leaves are so; or it aborts in a world that was
+-- told well, or is cut in one that is as it should be. There is a rule for it.
 abbrev pub Good : {A : Type 0} → (ClosedType → Option (List ℕ)) → (A → World → Type 0) → Out A → Type 0
 Good owner q (gives a w left) = q a w
 Good owner q (aborts fault w left) = IsOrderly owner w
-Good owner q (cut w) = IsOrderly owner w
+Good owner q (cut w) = IsCutWell owner w
 Good owner q (no_rule w left) = ⊥

@@ -4,6 +4,7 @@ pub use Rattle.au_agreeing.specs.Stores
 pub use Rattle.au_frames.specs.Frames
 pub use Rattle.au_sound_calls.specs.Granting
 pub use Rattle.au_sound_calls.specs.Sound
+pub mod Exclusive
 pub mod Good
 pub mod Naming
 pub mod Closing

@@ -3,6 +3,7 @@ pub use Rattle.au_borrows.specs.Orders
 pub use Rattle.au_running_judgements.specs.Frames
 pub use Rattle.au_running_judgements.specs.Sound
 pub use Rattle.au_running_judgements.specs.Entering
+pub use Rattle.au_running_judgements.specs.Exclusive
 pub use Rattle.au_running_judgements.specs.Good
 pub use Rattle.au_running_judgements.specs.Making
 pub mod Shipped

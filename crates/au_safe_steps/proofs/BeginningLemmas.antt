@@ -22,7 +22,7 @@ use Rattle.au_safe_acts.specs.Frames.{Frame, hold_at, type_at}
 use Rattle.au_meaning.specs.Meanings.{exit_in, first_world}
 use Rattle.au_meaning.specs.Worlds.{Borrow, World, exit}
 use Rattle.au_safe_acts.proofs.SoundLemmas.{home_fits, sound_as}
-use Rattle.au_safe_acts.specs.Good.{IsIn, lying_in}
+use Rattle.au_safe_acts.specs.Good.{IsIn, lying_in, open_of}
 use Rattle.au_safe_acts.proofs.CloseLemmas.{left_lying}
 use Rattle.au_safe_steps.specs.Beginning.{CountsLying, ExitsWell, FinishesWell, RootsComeWell, StartsWell}
 
@@ -58,7 +58,7 @@ module _ (types : Types) (owner : ClosedType → Option (List ℕ)) (acts : List
     (sizes : List ℕ) (under : Made) (w : World) where
   pub counts_lying : CountsLying types owner acts fs sizes under w
   counts_lying = (
-    sym (length_map (λ (one : Borrow). one.number) w.borrows),
+    sym (length_map open_of w.borrows),
     λ a older acts_are state. left_lying types owner acts fs sizes under w a older acts_are state,
   )
 

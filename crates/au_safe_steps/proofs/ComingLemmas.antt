@@ -16,6 +16,7 @@ use Rattle.au_safe_acts.specs.Stores.{memory_of, told_of}
 use Rattle.au_safe_acts.specs.Frames.{Frame, hold_at, type_at}
 use Rattle.au_meaning.specs.Worlds.{World}
 use Rattle.au_safe_acts.proofs.PrintLemmas.{plain_gone}
+use Rattle.au_safe_acts.proofs.ExclusiveLemmas.{is_exclusive}
 use Rattle.au_safe_acts.proofs.SoundLemmas.{number_is, sound_plain, told_well, truth_is}
 use Rattle.au_safe_acts.specs.Good.{lying_in}
 use Rattle.au_safe_steps.specs.Coming.{DropsWell, NumbersAreTold, NumbersGoOn, PlainsComeWell, PlainsDropWell}
@@ -38,7 +39,10 @@ numbers_go_on kind z = (
 module _ (types : Types) (owner : ClosedType → Option (List ℕ)) (acts : List Act) (fs : List Frame)
     (sizes : List ℕ) (under : Made) (w : World) where
   pub tells_well : TellsWell types owner acts fs sizes under w
-  tells_well state = told_well ClosedType types owner acts (hold_at fs) (type_at fs) under (lying_in w) sizes w.store state
+  tells_well state = (
+    told_well ClosedType types owner acts (hold_at fs) (type_at fs) under (lying_in w) sizes w.store state,
+    is_exclusive types owner acts fs sizes under w state,
+  )
 
   pub plains_come_well : PlainsComeWell types owner acts fs sizes under w
   plains_come_well v t plain state =

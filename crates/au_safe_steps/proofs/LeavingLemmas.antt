@@ -10,12 +10,12 @@ use Rattle.au_type_texts.specs.Types.{ClosedType}
 use Rattle.au_memory.specs.Forests.{Hold, IsAmong, Made, empty, ready, shut, watched}
 use Rattle.au_memory.specs.Loans.{Types}
 use Rattle.au_lending.specs.Ending.{freed, left_watched, others_of}
-use Rattle.au_safe_acts.specs.Orders.{Act}
+use Rattle.au_safe_acts.specs.Orders.{Act, Lying}
 use Rattle.au_safe_acts.specs.Frames.{Frame}
 use Rattle.au_meaning.specs.Acts.{closed_to, new_names}
 use Rattle.au_meaning.specs.Worlds.{Borrow, Store, Value, World}
 use Rattle.au_safe_acts.specs.Closing.{freed_frame, freed_frames}
-use Rattle.au_safe_acts.specs.Good.{IsIn, lying_in}
+use Rattle.au_safe_acts.specs.Good.{IsIn, lying_in, open_of}
 use Rattle.au_safe_acts.specs.Making.{values_of}
 use Rattle.au_safe_acts.proofs.CloseLemmas.{left_lying, tokens_end}
 use Rattle.au_safe_steps.specs.Leaving.{FramesHaveRoom, IsClear, OthersStay, TokensEndTo, freed_of}
@@ -108,10 +108,10 @@ closed_both w n m less most =
     ∙ ap (λ (xs : List Borrow). with_open w (closes (map number_of (newer n bs)) w.store) xs) (back bs n m less most)
 
 -- borrows that are left are no more than there were
-fewer : (w : World) (n : ℕ) (base : List ℕ) → lying_in (closed_to n w) ≡ base → length base ≤ length w.borrows
+fewer : (w : World) (n : ℕ) (base : Lying) → lying_in (closed_to n w) ≡ base → length base ≤ length w.borrows
 fewer w n base is =
-    let own = ap (λ (xs : List ℕ). length xs) is in
-    let all = length_map number_of (oldest n w.borrows) in
+    let own = ap (λ (xs : Lying). length xs) is in
+    let all = length_map open_of (oldest n w.borrows) in
     let less = length_drop (length w.borrows - n) w.borrows in
     omega arith
 
@@ -130,8 +130,8 @@ ends_to types owner (b ∷ rest) a older fs sizes under w state =
     let lies = left_lying types owner (b ∷ acts) fs sizes under w b acts refl state in
     let mid = closed_to (length b.base) w in
     let more = ends_to types owner rest a older (freed_frames b.token fs) sizes under mid once in
-    let kept : length (lying_in mid) ≡ length mid.borrows = length_map number_of mid.borrows in
-    let base = ap (λ (xs : List ℕ). length xs) lies in
+    let kept : length (lying_in mid) ≡ length mid.borrows = length_map open_of mid.borrows in
+    let base = ap (λ (xs : Lying). length xs) lies in
     let one = fewer mid (length a.base) a.base more.1 in
     let two = fewer w (length b.base) b.base lies in
     let same : closed_to (length a.base) mid ≡ closed_to (length a.base) w =

@@ -14,7 +14,7 @@ use Rattle.au_safe_acts.specs.Orders.{Act}
 use Rattle.au_safe_acts.specs.Frames.{Frame, IsDroppable}
 use Rattle.au_meaning.specs.Worlds.{Value, World}
 use Rattle.au_safe_acts.specs.Sound.{AreTyped}
-use Rattle.au_safe_acts.specs.Good.{IsIn, IsOrderly}
+use Rattle.au_safe_acts.specs.Good.{IsCutWell, IsIn}
 use Rattle.au_safe_steps.specs.Orders.{IsReordered}
 
 -- ---- numbers
@@ -31,7 +31,7 @@ module _ (types : Types) (owner : ClosedType → Option (List ℕ)) (acts : List
     (sizes : List ℕ) (under : Made) (w : World) where
   -- What was told of a world that is as it should be is.
   abbrev pub TellsWell : Type 0
-  TellsWell = IsIn types owner acts fs sizes under w → IsOrderly owner w
+  TellsWell = IsIn types owner acts fs sizes under w → IsCutWell owner w
 
   -- A value that holds nothing comes under way.
   abbrev pub PlainsComeWell : Type 0

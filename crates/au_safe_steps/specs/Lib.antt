@@ -5,6 +5,7 @@ pub use Rattle.au_safe_acts.specs.Stores
 pub use Rattle.au_safe_acts.specs.Behind
 pub use Rattle.au_safe_acts.specs.Closing
 pub use Rattle.au_safe_acts.specs.Entering
+pub use Rattle.au_safe_acts.specs.Exclusive
 pub use Rattle.au_safe_acts.specs.Good
 pub use Rattle.au_safe_acts.specs.Lending
 pub use Rattle.au_safe_acts.specs.Making

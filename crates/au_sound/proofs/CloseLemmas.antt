@@ -11,7 +11,7 @@ use Rattle.au_type_texts.specs.Types.{ClosedType}
 use Rattle.au_memory.specs.Forests.{Made}
 use Rattle.au_memory.specs.Loans.{Types}
 use Rattle.au_lending.specs.Ending.{freed}
-use Rattle.au_safe_ships.specs.Orders.{Act, AreSorted, AreStacked, is_active}
+use Rattle.au_safe_ships.specs.Orders.{Act, AreSorted, AreStacked, Lying, is_active}
 use Rattle.au_safe_ships.specs.Frames.{Frame}
 use Rattle.au_meaning.specs.Acts.{closed_to}
 use Rattle.au_meaning.specs.Worlds.{Borrow, Store, World}
@@ -83,15 +83,15 @@ closed_twice c d n less =
 
 -- ---- what lay open when a frame began lies below
 
-bottom_below : (own below : List Act) (lying base : List ℕ) → AreStacked (own ++ below) lying → IsBottom own lying base
+bottom_below : (own below : List Act) (lying base : Lying) → AreStacked (own ++ below) lying → IsBottom own lying base
     → length base ≤ length lying
 bottom_below [] below lying base stacked bottom =
-    let same : length lying ≡ length base = ap (λ (xs : List ℕ). length xs) bottom in
+    let same : length lying ≡ length base = ap (λ (xs : Lying). length xs) bottom in
     omega arith
 bottom_below (a ∷ own) below lying base stacked bottom =
     let rest = bottom_below own below a.base base stacked.1 bottom in
     let sum : length lying ≡ length stacked.0.newer + length a.base =
-    ap (λ (xs : List ℕ). length xs) stacked.0.is ∙ length-append stacked.0.newer a.base in
+    ap (λ (xs : Lying). length xs) stacked.0.is ∙ length-append stacked.0.newer a.base in
     omega arith
 
 -- the newest token isn't among those before it
@@ -105,7 +105,7 @@ newest_off a older sorted = by (is_active older a.token) refl
 -- ---- all tokens of a frame
 
 module _ (types : Types) (owner : ClosedType → Option (List ℕ)) (laws : ActionsAreSafe types owner) (below : List Act)
-    (base : List ℕ) (fs : List Frame) (sizes : List ℕ) (waiting : AllWait (is_active below) fs) where
+    (base : Lying) (fs : List Frame) (sizes : List ℕ) (waiting : AllWait (is_active below) fs) where
   -- the newest one ends
   one_ended : (a : Act) (own : List Act) (hold : Standing) (names : Names) (made : Made) (n : World)
       → IsIn types owner (a ∷ (own ++ below)) (frame hold names ∷ fs) sizes made n
@@ -125,7 +125,7 @@ module _ (types : Types) (owner : ClosedType → Option (List ℕ)) (laws : Acti
       → IsIn types owner below (frame (λ k. freed_each (tokens (a ∷ own)) (hold k)) names ∷ fs) sizes made
       (closed_to (length base) n) × (lying_in (closed_to (length base) n) ≡ base)
   all_ended a [] hold names made n bottom state =
-      subst (λ (xs : List ℕ). IsIn types owner below (frame (λ k. freed a.token (hold k)) names ∷ fs) sizes made
+      subst (λ (xs : Lying). IsIn types owner below (frame (λ k. freed a.token (hold k)) names ∷ fs) sizes made
       (closed_to (length xs) n) × (lying_in (closed_to (length xs) n) ≡ xs)) bottom (
         one_ended a [] hold names made n state,
         (laws.counted (a ∷ below) (frame hold names ∷ fs) sizes made n).1 a below refl state,

@@ -30,14 +30,15 @@ module _ (types : Types) (owner : ClosedType → Option (List ℕ)) (laws : Runs
       let over = laws.exits [] [] [] [] n laws.steps.actions.typed v t exits good.0 in
       let ends = laws.finishes types owner [] n over.2 in
       record {
-        once = told.0;
-        inside = told.1;
-        own = told.2;
+        once = told.0.0;
+        inside = told.0.1;
+        own = told.0.2;
         ended = subst (EndsWell n) (sym over.1) (ends.0, ends.1 good.1);
       }
   seen_well t exits ticks (aborts fault n left) good =
       record { once = good.0; inside = good.1; own = good.2; ended = tt }
-  seen_well t exits ticks (cut n) good = record { once = good.0; inside = good.1; own = good.2; ended = tt }
+  seen_well t exits ticks (cut n) good =
+      record { once = good.0.0; inside = good.0.1; own = good.0.2; ended = good.1 }
   seen_well t exits ticks (no_rule n left) good = absurd good
 
   module _ {I T C K : Type 0} (known : Callables I K) (functions : I → Option (Function I T C))

@@ -1,10 +1,8 @@
 -- The laws of actions, gathered where types have their forms.
-use Rattle.std.proofs.Common.{◌≡◌, ℕ, Bool, List, [], ◌∷◌, Option, refl, sym, subst}
-use Rattle.au_effects.specs.Values as values
+use Rattle.std.proofs.Common.{ℕ, List, Option}
 use Rattle.au_type_texts.specs.Types.{ClosedType}
 use Rattle.au_types.specs.Types as type
 use Rattle.au_memory.specs.Loans.{Types}
-use Rattle.au_memory.specs.Shown.{IsPlain}
 use Rattle.au_safe_ships.specs.Sound.{AreTyped}
 use Rattle.au_safe_ships.proofs.BehindLemmas.{readers_read_well, writers_put_well, writers_read_well}
 use Rattle.au_safe_ships.proofs.CloseLemmas.{tokens_begin, tokens_end}

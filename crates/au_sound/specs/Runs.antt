@@ -10,6 +10,7 @@ use Rattle.au_safe_ships.specs.Frames.{Frame}
 use Rattle.au_meaning.specs.Meanings.{mean, parameters_of}
 use Rattle.au_meaning.specs.Views.{Field, Function}
 use Rattle.au_meaning.specs.Worlds.{Ending, Outcome, World, abort, exit, running, stuck}
+use Rattle.au_safe_ships.specs.Exclusive.{IsExclusive}
 use Rattle.au_safe_ships.specs.Entering.{EntersWell, LeavesWell}
 use Rattle.au_safe_ships.specs.Sound.{IsHomeOf}
 use Rattle.au_safe_ships.specs.Beginning.{ExitsWell, FinishesWell, IsExitOf, RootsComeWell, StartsWell}
@@ -33,11 +34,12 @@ pub record RunsAreSafe (types : Types) (owner : ClosedType → Option (List ℕ)
 
 -- What is seen of a run is as it should be, by how it ended: it isn't stuck; each birth is told once and consumed at most
 -- once, and exactly once where it exits, and then each borrow was closed; each use of a borrow stands inside it; and
--- what is born of a type that has an owner is born there.
+-- what is born of a type that has an owner is born there. Where a run is cut off, before whichever of its ticks, borrows
+-- are exclusive.
 abbrev pub EndsWell : World → Ending → Type 0
 EndsWell w (exit b) = Once w.store.deeds × AllClosed w.store.deeds
 EndsWell w (abort fault) = Unit {0}
-EndsWell w running = Unit {0}
+EndsWell w running = IsExclusive w
 EndsWell w stuck = ⊥
 
 pub record IsSeenWell (owner : ClosedType → Option (List ℕ)) (seen : Outcome) : Type 0 where

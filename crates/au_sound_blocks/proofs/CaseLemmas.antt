@@ -12,7 +12,7 @@ use Rattle.au_memory.specs.Forests as forest
 use Rattle.au_memory.specs.Forests.{Hold, Made, empty, shut}
 use Rattle.au_memory.specs.Loans.{Types}
 use Rattle.au_lending.specs.Records.{onto, types_made}
-use Rattle.au_sound_expressions.specs.Orders.{Act, is_active}
+use Rattle.au_sound_expressions.specs.Orders.{Act, Lying, is_active}
 use Rattle.au_sound_expressions.specs.Frames.{Frame}
 use Rattle.au_meaning.specs.Acts.{tells_apart}
 use Rattle.au_meaning.specs.Expressions.{whole}
@@ -41,7 +41,7 @@ use Rattle.au_sound_expressions.specs.Telling.{HasTold}
 use Rattle.au_sound_blocks.proofs.LoopLemmas.{ends_based}
 
 module _ (types : Types) (owner : ClosedType → Option (List ℕ)) (laws : StepsAreSafe types owner) (loose : ℕ → Bool)
-    (result : Meaning) (below : List Act) (base : List ℕ) (fs : List Frame) (sizes : List ℕ) (size : ℕ)
+    (result : Meaning) (below : List Act) (base : Lying) (fs : List Frame) (sizes : List ℕ) (size : ℕ)
     (running : IsRunning sizes fs size) {I T C K : Type 0} (see : View I T C) (known : Callables I K)
     (invoke : I → List Value → Action Value) (calls_safe : CallsSafe types owner known invoke)
     (waiting : AllWait (is_active below) fs) where

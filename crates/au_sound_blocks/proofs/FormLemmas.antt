@@ -13,7 +13,7 @@ use Rattle.au_memory.specs.Forests.{Hold, Made, empty, shut, watched}
 use Rattle.au_memory.specs.Loans.{Types}
 use Rattle.au_lending.specs.Ending.{freed, left_watched, others_of}
 use Rattle.au_lending.specs.Records.{onto, types_made}
-use Rattle.au_sound_expressions.specs.Orders.{Act, is_active}
+use Rattle.au_sound_expressions.specs.Orders.{Act, Lying, is_active}
 use Rattle.au_sound_expressions.specs.Frames.{Frame}
 use Rattle.au_meaning.specs.Acts.{apart, bound_counted, holds, with_value, with_values}
 use Rattle.au_meaning.specs.Expressions.{whole}
@@ -90,7 +90,7 @@ freed_empty z (watched zs) is = by (others_of z zs) is
     by (y ∷ ys) same = absurd cc
 
 module _ (types : Types) (owner : ClosedType → Option (List ℕ)) (laws : StepsAreSafe types owner) (loose : ℕ → Bool)
-    (result : Meaning) (below : List Act) (base : List ℕ) (fs : List Frame) (sizes : List ℕ) (size : ℕ)
+    (result : Meaning) (below : List Act) (base : Lying) (fs : List Frame) (sizes : List ℕ) (size : ℕ)
     (running : IsRunning sizes fs size) {I T C K : Type 0} (see : View I T C) (known : Callables I K)
     (invoke : I → List Value → Action Value) (calls_safe : CallsSafe types owner known invoke)
     (waiting : AllWait (is_active below) fs) where
@@ -197,7 +197,7 @@ module _ (types : Types) (owner : ClosedType → Option (List ℕ)) (laws : Step
         clear = λ k from. each_after number (length binds) k forest.ready h from ∙ going.clear k (omega arith);
         fine = subst (λ (c : ℕ). Fine (put_each number c forest.ready h) (with_types number bound.bound names)) count_types
             (fine_each number bound.bound h names bound.fine going.fine);
-        bottom = subst (λ (xs : List ℕ). IsBottom own xs base) (sym (lies_filled number (values_of found.0) n))
+        bottom = subst (λ (xs : Lying). IsBottom own xs base) (sym (lies_filled number (values_of found.0) n))
             going.bottom;
         state = subst (λ (f : Frame). IsIn types owner (own ++ below) (f ∷ fs) sizes under
             (with_values number (values_of found.0) n))

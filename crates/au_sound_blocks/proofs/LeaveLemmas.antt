@@ -14,7 +14,7 @@ use Rattle.au_syntax.specs.Plain.{Bytes}
 use Rattle.au_memory.specs.Forests.{Hold, Made, empty}
 use Rattle.au_memory.specs.Loans.{Types}
 use Rattle.au_lending.specs.Ending.{freed}
-use Rattle.au_sound_expressions.specs.Orders.{Act, is_active}
+use Rattle.au_sound_expressions.specs.Orders.{Act, Lying, is_active}
 use Rattle.au_sound_expressions.specs.Frames.{Frame, IsDroppable}
 use Rattle.au_meaning.specs.Acts.{place_of, puts, reference_held, refers, sets}
 use Rattle.au_meaning.specs.Expressions.{eval, whole}
@@ -75,7 +75,7 @@ good_puts owner q x path v w ticks good =
     put_keeps owner q (along (reference_held x w) (λ one. Some (reference_along one path))) v w ticks good
 
 module _ (types : Types) (owner : ClosedType → Option (List ℕ)) (laws : StepsAreSafe types owner) (loose : ℕ → Bool)
-    (result : Meaning) (below : List Act) (base : List ℕ) (fs : List Frame) (sizes : List ℕ) (size : ℕ)
+    (result : Meaning) (below : List Act) (base : Lying) (fs : List Frame) (sizes : List ℕ) (size : ℕ)
     (running : IsRunning sizes fs size) {I T C K : Type 0} (see : View I T C) (known : Callables I K)
     (invoke : I → List Value → Action Value) (calls_safe : CallsSafe types owner known invoke)
     (waiting : AllWait (is_active below) fs) where

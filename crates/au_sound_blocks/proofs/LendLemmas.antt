@@ -13,7 +13,7 @@ use Rattle.au_memory.specs.Forests.{Hold, Made, empty, shut}
 use Rattle.au_memory.specs.Loans.{Types}
 use Rattle.au_lending.specs.Ending.{freed}
 use Rattle.au_lending.specs.Laws.{IsReadable}
-use Rattle.au_sound_expressions.specs.Orders.{Act, is_active}
+use Rattle.au_sound_expressions.specs.Orders.{Act, Lying, is_active}
 use Rattle.au_sound_expressions.specs.Frames.{Frame}
 use Rattle.au_meaning.specs.Acts.{closed_to, holds, lends}
 use Rattle.au_meaning.specs.Names.{Variable}
@@ -45,7 +45,7 @@ use Rattle.au_sound_blocks.proofs.StateLemmas.{more_active, ticks_on}
 use Rattle.au_sound_blocks.proofs.LoopLemmas.{good_lending}
 
 module _ (types : Types) (owner : ClosedType → Option (List ℕ)) (laws : StepsAreSafe types owner) (loose : ℕ → Bool)
-    (result : Meaning) (below : List Act) (base : List ℕ) (fs : List Frame) (sizes : List ℕ) (size : ℕ)
+    (result : Meaning) (below : List Act) (base : Lying) (fs : List Frame) (sizes : List ℕ) (size : ℕ)
     (running : IsRunning sizes fs size) {I T C K : Type 0} (see : View I T C) (known : Callables I K)
     (invoke : I → List Value → Action Value) (calls_safe : CallsSafe types owner known invoke)
     (waiting : AllWait (is_active below) fs) where
@@ -140,7 +140,7 @@ module _ (types : Types) (owner : ClosedType → Option (List ℕ)) (laws : Step
               waits = λ k. waits_freed a (own ++ below) (fell.hold k) (fell.going.waits k);
               clear = λ k from. ap (freed a.token) (fell.going.clear k from);
               fine = λ k may. fine_on k (fell.going.fine k may);
-              bottom = subst (λ (xs : List ℕ). IsBottom own xs base)
+              bottom = subst (λ (xs : Lying). IsBottom own xs base)
                   (sym ((laws.actions.counted (a ∷ (own ++ below)) (frame fell.hold fell.names ∷ fs) sizes under n).1 a
                   (own ++ below) refl fell.going.state)) fell.going.bottom;
               state = subst (λ (gs : List Frame). IsIn types owner (own ++ below)

@@ -14,7 +14,7 @@ use Rattle.au_syntax.specs.Plain.{Bytes}
 use Rattle.au_memory.specs.Forests.{Made}
 use Rattle.au_memory.specs.Loans.{Types}
 use Rattle.au_memory.specs.Shown.{IsPlain}
-use Rattle.au_sound_expressions.specs.Orders.{Act, is_active}
+use Rattle.au_sound_expressions.specs.Orders.{Act, Lying, is_active}
 use Rattle.au_sound_expressions.specs.Frames.{Frame}
 use Rattle.au_meaning.specs.Acts.{closed_to}
 use Rattle.au_meaning.specs.Expressions.{chosen, whole}
@@ -67,7 +67,7 @@ same_kinds kinds.Int64 = refl
 same_kinds kinds.Index = refl
 
 module _ (types : Types) (owner : ClosedType → Option (List ℕ)) (laws : StepsAreSafe types owner) (loose : ℕ → Bool)
-    (result : Meaning) (below : List Act) (base : List ℕ) (fs : List Frame) (sizes : List ℕ) (size : ℕ)
+    (result : Meaning) (below : List Act) (base : Lying) (fs : List Frame) (sizes : List ℕ) (size : ℕ)
     (running : IsRunning sizes fs size) {I T C K : Type 0} (see : View I T C) (known : Callables I K)
     (invoke : I → List Value → Action Value) (calls_safe : CallsSafe types owner known invoke)
     (waiting : AllWait (is_active below) fs) where

@@ -10,7 +10,7 @@ use Rattle.au_memory.specs.Forests as forest
 use Rattle.au_memory.specs.Forests.{Hold, Made, empty}
 use Rattle.au_memory.specs.Loans.{Types}
 use Rattle.au_lending.specs.Laws.{IsReadable}
-use Rattle.au_sound_expressions.specs.Orders.{Act, is_active}
+use Rattle.au_sound_expressions.specs.Orders.{Act, Lying, is_active}
 use Rattle.au_sound_expressions.specs.Frames.{Frame, IsDroppable, IsLoose}
 use Rattle.au_meaning.specs.Acts.{emptied, stored, with_value}
 use Rattle.au_meaning.specs.Expressions.{whole}
@@ -61,7 +61,7 @@ more_active (a ∷ own) below z is = by (a.token == z) (more_active own below z 
     by false rest = rest
 
 module _ (types : Types) (owner : ClosedType → Option (List ℕ)) (laws : StepsAreSafe types owner) (loose : ℕ → Bool)
-    (result : Meaning) (below : List Act) (base : List ℕ) (fs : List Frame) (sizes : List ℕ) (size : ℕ)
+    (result : Meaning) (below : List Act) (base : Lying) (fs : List Frame) (sizes : List ℕ) (size : ℕ)
     (running : IsRunning sizes fs size) where
   abbrev pub Goes : List Act → ℕ → Standing → Names → Made → World → Type 0
   Goes own number h names under w = Going types owner loose result below base fs sizes size own number h names under w
@@ -104,7 +104,7 @@ module _ (types : Types) (owner : ClosedType → Option (List ℕ)) (laws : Step
     waits = going.waits;
     clear = going.clear;
     fine = going.fine;
-    bottom = subst (λ (xs : List ℕ). IsBottom own xs base) (sym lies) going.bottom;
+    bottom = subst (λ (xs : Lying). IsBottom own xs base) (sym lies) going.bottom;
     state = state;
   }
 
@@ -196,7 +196,7 @@ module _ (types : Types) (owner : ClosedType → Option (List ℕ)) (laws : Step
           waits = each_way (Waits (is_active (own ++ below))) number count empty fell.hold tt fell.going.waits;
           clear = none;
           fine = λ k may. by k may (cases_lt k number);
-          bottom = subst (λ (xs : List ℕ). IsBottom own xs base) (sym (lies_emptied number count w)) fell.going.bottom;
+          bottom = subst (λ (xs : Lying). IsBottom own xs base) (sym (lies_emptied number count w)) fell.going.bottom;
           state = laws.renamed (own ++ below) fs sizes under (emptied number count w)
               (put_each number count empty fell.hold) fell.names before (λ k. same k (cases_lt k number))
               (subst (λ (f : Frame). IsIn types owner (own ++ below) (f ∷ fs) sizes under (emptied number count w))
@@ -278,7 +278,7 @@ module _ (types : Types) (owner : ClosedType → Option (List ℕ)) (laws : Step
             waits = λ k. waits_spent (is_active (own ++ below)) (uses see k scope e).consumed (h k) (going.waits k);
             clear = λ k from. spent_empty (uses see k scope e).consumed (h k) (going.clear k from);
             fine = λ k may. fine_on k (going.fine k may);
-            bottom = subst (λ (xs : List ℕ). IsBottom own xs base) (sym gave.same) going.bottom;
+            bottom = subst (λ (xs : Lying). IsBottom own xs base) (sym gave.same) going.bottom;
             state = gave.state;
           };
           state = gave.state;

@@ -4,7 +4,7 @@ use Rattle.au_type_texts.specs.Types.{ClosedType}
 use Rattle.au_types.specs.Types.{Meaning}
 use Rattle.au_memory.specs.Forests.{Made, empty}
 use Rattle.au_memory.specs.Loans.{Types}
-use Rattle.au_sound_expressions.specs.Orders.{Act, is_active}
+use Rattle.au_sound_expressions.specs.Orders.{Act, Lying, is_active}
 use Rattle.au_sound_expressions.specs.Frames.{Frame}
 use Rattle.au_meaning.specs.Statements.{Flow, falls, returns}
 use Rattle.au_meaning.specs.Worlds.{Value, World}
@@ -18,14 +18,14 @@ abbrev pub tokens : List Act → List ℕ
 tokens own = map (λ (a : Act). a.token) own
 
 -- These borrows lay open when the oldest of a frame's own tokens began; or they lie open now, where it has none.
-abbrev pub IsBottom : List Act → (lying base : List ℕ) → Type 0
+abbrev pub IsBottom : List Act → (lying base : Lying) → Type 0
 IsBottom [] lying base = lying ≡ base
 IsBottom (a ∷ own) lying base = IsBottom own a.base base
 
 -- which of the frame's names hold what may be dropped, the type that its body returns, the tokens that were active when
 -- it began and the borrows that lay open then, the frames below, and how many names it has
 module _ (types : Types) (owner : ClosedType → Option (List ℕ)) (loose : ℕ → Bool) (result : Meaning)
-    (below : List Act) (base : List ℕ) (fs : List Frame) (sizes : List ℕ) (size : ℕ) where
+    (below : List Act) (base : Lying) (fs : List Frame) (sizes : List ℕ) (size : ℕ) where
   -- The frame goes on with tokens of its own: its names from a number on are empty, each waits for tokens that are active,
   -- and what may be dropped is of a type of which that holds.
   pub record Going (own : List Act) (number : ℕ) (hold : Standing) (names : Names) (under : Made) (w : World) : Type 0

@@ -6,7 +6,7 @@ use Rattle.au_syntax.specs.Plain.{Bytes}
 use Rattle.au_syntax.specs.Statements.{Statements}
 use Rattle.au_memory.specs.Forests.{Made}
 use Rattle.au_memory.specs.Loans.{Types}
-use Rattle.au_sound_expressions.specs.Orders.{Act, is_active}
+use Rattle.au_sound_expressions.specs.Orders.{Act, Lying, is_active}
 use Rattle.au_sound_expressions.specs.Frames.{Frame}
 use Rattle.au_meaning.specs.Names.{Scope, names_in_block}
 use Rattle.au_meaning.specs.Statements.{run_all}
@@ -26,7 +26,7 @@ abbrev pub BodiesAreSafe : (types : Types) → (ClosedType → Option (List ℕ)
     → Callables I K → (I → List Value → Action Value) → Type 0
 BodiesAreSafe types owner {T = T} {C = C} see known invoke =
     StepsAreSafe types owner → CallsSafe types owner known invoke
-    → (loose : ℕ → Bool) (result : Meaning) (below : List Act) (base : List ℕ) (fs : List Frame) (sizes : List ℕ) (size : ℕ)
+    → (loose : ℕ → Bool) (result : Meaning) (below : List Act) (base : Lying) (fs : List Frame) (sizes : List ℕ) (size : ℕ)
     → IsRunning sizes fs size → AllWait (is_active below) fs
     → (depth number : ℕ) (scope : Scope) (block : Statements Bytes T C) (own : List Act) (h : Standing) (names : Names)
     (under : Made) (w : World) (ticks : ℕ) → AheadAll see loose number scope (tokens own) block (λ g. ⊥) h

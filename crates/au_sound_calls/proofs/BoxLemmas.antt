@@ -17,7 +17,7 @@ use Rattle.au_types.specs.Types.{Meaning}
 use Rattle.au_memory.specs.Forests.{Holds, Made}
 use Rattle.au_memory.specs.Loans.{Types}
 use Rattle.au_borrows.specs.Orders.{Act}
-use Rattle.au_borrows.specs.Told.{with_birth, with_end, with_use}
+use Rattle.au_borrows.specs.Told.{Open, with_birth, with_end, with_use}
 use Rattle.au_acting.proofs.BehindLemmas as behind
 use Rattle.au_acting.proofs.ReaderLemmas as readers
 use Rattle.au_acting.proofs.ValueLemmas as values
@@ -29,7 +29,7 @@ use Rattle.au_sound_calls.specs.Sound.{GoesWell, IsSound}
 use Rattle.au_sound_calls.proofs.SoundLemmas.{given_good, home_fits, sound_as, sound_used, told_memory, used_good}
 
 module _ (B : Type 0) (types : Types) (owner : B → Option (List ℕ)) (acts : List Act) (hold : Holds)
-    (names : ℕ → ℕ → Meaning) (under : Made) (lying sizes : List ℕ) (w : World (List ℕ) B) where
+    (names : ℕ → ℕ → Meaning) (under : Made) (lying : List Open) (sizes : List ℕ) (w : World (List ℕ) B) where
   -- what an answer comes to
   abbrev Good : Meaning → Answer (List ℕ) B → Type 0
   Good t answer = GoesWell types owner acts hold names t under lying sizes answer

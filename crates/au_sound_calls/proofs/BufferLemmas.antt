@@ -18,7 +18,7 @@ use Rattle.au_types.specs.Types.{Meaning}
 use Rattle.au_memory.specs.Forests.{Holds, Made}
 use Rattle.au_memory.specs.Loans.{Types}
 use Rattle.au_borrows.specs.Orders.{Act}
-use Rattle.au_borrows.specs.Told.{with_birth, with_end, with_use}
+use Rattle.au_borrows.specs.Told.{Open, with_birth, with_end, with_use}
 use Rattle.au_acting.specs.Safe.{IsSafe}
 use Rattle.au_acting.proofs.CasingLemmas.{sees_items}
 use Rattle.au_acting.proofs.ItemLemmas as items
@@ -49,7 +49,7 @@ buffer_good P w r b to i vs go leads there holds good =
     (given_good P (along (slice_get w.births i) elements_in) vs (λ values. go i values (tells (used b) w)) holds good)
 
 module _ (B : Type 0) (types : Types) (owner : B → Option (List ℕ)) (acts : List Act) (hold : Holds)
-    (names : ℕ → ℕ → Meaning) (under : Made) (lying sizes : List ℕ) (w : World (List ℕ) B) where
+    (names : ℕ → ℕ → Meaning) (under : Made) (lying : List Open) (sizes : List ℕ) (w : World (List ℕ) B) where
   -- what an answer comes to
   abbrev Good : Meaning → Answer (List ℕ) B → Type 0
   Good t answer = GoesWell types owner acts hold names t under lying sizes answer
@@ -168,7 +168,7 @@ module _ (B : Type 0) (types : Types) (owner : B → Option (List ℕ)) (acts : 
 
 -- what was told where a borrow was used
 used_well : (B : Type 0) (types : Types) (owner : B → Option (List ℕ)) (acts : List Act) (hold : Holds)
-    (names : ℕ → ℕ → Meaning) (under : Made) (lying sizes : List ℕ) (w : World (List ℕ) B) (r : Value (List ℕ)) (b c : ℕ)
+    (names : ℕ → ℕ → Meaning) (under : Made) (lying : List Open) (sizes : List ℕ) (w : World (List ℕ) B) (r : Value (List ℕ)) (b c : ℕ)
     (to at : Place) → w.keeps ≡ true → sizes_of w ≡ sizes → r ≡ reference b to → r ≡ reference c at
     → IsSafe types owner acts hold names under (memory_of w) (with_use b (told_of lying w))
     → IsToldWell types owner acts hold names (tells (used c) w)
@@ -179,7 +179,7 @@ used_well B types owner acts hold names under lying sizes w r b c to at keeps si
     (sound_used B types owner acts hold names under lying sizes w b keeps sized safe))
 
 module _ (B : Type 0) (types : Types) (owner : B → Option (List ℕ)) (acts : List Act) (hold : Holds)
-    (names : ℕ → ℕ → Meaning) (under : Made) (lying sizes : List ℕ) (w : World (List ℕ) B) where
+    (names : ℕ → ℕ → Meaning) (under : Made) (lying : List Open) (sizes : List ℕ) (w : World (List ℕ) B) where
   pub removes : Removes B types owner acts hold names under lying sizes w
   unfolding shipped
   removes typed r t of z is on sound =

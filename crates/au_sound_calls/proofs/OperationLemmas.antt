@@ -20,6 +20,7 @@ use Rattle.au_types.specs.Types.{Meaning}
 use Rattle.au_memory.specs.Forests.{Holds, Made}
 use Rattle.au_memory.specs.Loans.{Types}
 use Rattle.au_borrows.specs.Orders.{Act}
+use Rattle.au_borrows.specs.Told.{Open}
 use Rattle.au_acting.proofs.ValueLemmas as values
 use Rattle.au_agreeing.specs.Stores.{memory_of, told_of}
 use Rattle.au_sound_calls.specs.Granting.{IsOptionOf}
@@ -84,7 +85,7 @@ both_here kind go x y =
     ∙ ap (λ o. on_both go (Some x) o) (number_here kind y)
 
 module _ (B : Type 0) (types : Types) (owner : B → Option (List ℕ)) (acts : List Act) (hold : Holds)
-    (names : ℕ → ℕ → Meaning) (under : Made) (lying sizes : List ℕ) (w : World (List ℕ) B) where
+    (names : ℕ → ℕ → Meaning) (under : Made) (lying : List Open) (sizes : List ℕ) (w : World (List ℕ) B) where
   -- what an operation comes to
   abbrev Well : Meaning → Result (List ℕ) → Type 0
   Well t result = ComesWell B types owner acts hold names under lying sizes w t result

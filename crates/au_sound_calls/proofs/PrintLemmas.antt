@@ -13,6 +13,7 @@ use Rattle.au_memory.specs.Forests.{Holds, Made}
 use Rattle.au_memory.specs.Loans.{Types}
 use Rattle.au_memory.specs.Shown.{IsPlain}
 use Rattle.au_borrows.specs.Orders.{Act}
+use Rattle.au_borrows.specs.Told.{Open}
 use Rattle.au_acting.specs.Turning.{IsBasic}
 use Rattle.au_acting.proofs.TurnLemmas.{drops_plains}
 use Rattle.au_agreeing.specs.Stores.{memory_of, told_of}
@@ -22,7 +23,7 @@ use Rattle.au_sound_calls.proofs.NumberLemmas.{index_least}
 use Rattle.au_sound_calls.proofs.SoundLemmas.{number_is, sound_plain, text_is, told_well, truth_is}
 
 module _ (B : Type 0) (types : Types) (owner : B → Option (List ℕ)) (acts : List Act) (hold : Holds)
-    (names : ℕ → ℕ → Meaning) (under : Made) (lying sizes : List ℕ) (w : World (List ℕ) B) where
+    (names : ℕ → ℕ → Meaning) (under : Made) (lying : List Open) (sizes : List ℕ) (w : World (List ℕ) B) where
   -- the newest value, which holds nothing, is gone
   pub plain_gone : AreTyped types → (v : Value (List ℕ)) (t : Meaning) → IsBasic t
       → IsSound types owner acts hold names ((v, t) ∷ under) lying sizes w

@@ -18,7 +18,7 @@ use Rattle.au_memory.specs.Forests.{Holds, Made}
 use Rattle.au_memory.specs.Loans.{Types}
 use Rattle.au_memory.specs.Shown.{IsPlain}
 use Rattle.au_borrows.specs.Orders.{Act}
-use Rattle.au_borrows.specs.Told.{Told, with_use}
+use Rattle.au_borrows.specs.Told.{Open, Told, with_use}
 use Rattle.au_acting.specs.Safe.{IsSafe}
 use Rattle.au_acting.proofs.EndLemmas as acting
 use Rattle.au_acting.proofs.ValueLemmas.{plains}
@@ -58,7 +58,7 @@ home_fits {B} owner n kind home own id of other module' is has =
     sym homes ∙ own module' (subst (λ (k : B). owner k ≡ Some module') (sym kinds) has)
 
 module _ (B : Type 0) (types : Types) (owner : B → Option (List ℕ)) (acts : List Act) (hold : Holds)
-    (names : ℕ → ℕ → Meaning) (under : Made) (lying sizes : List ℕ) (w : World (List ℕ) B) where
+    (names : ℕ → ℕ → Meaning) (under : Made) (lying : List Open) (sizes : List ℕ) (w : World (List ℕ) B) where
   -- a store that has this memory, and of which this is told
   pub sound_as : (m : Memory (List ℕ)) (u : Told B) → w.keeps ≡ true → sizes_of w ≡ sizes → memory_of w ≡ m → told_of lying w ≡ u
       → IsSafe types owner acts hold names under m u → IsSound types owner acts hold names under lying sizes w
@@ -85,7 +85,7 @@ module _ (B : Type 0) (types : Types) (owner : B → Option (List ℕ)) (acts : 
   }
 
 module _ (B : Type 0) (types : Types) (owner : B → Option (List ℕ)) (acts : List Act) (hold : Holds)
-    (names : ℕ → ℕ → Meaning) (under : Made) (lying sizes : List ℕ) (w : World (List ℕ) B) where
+    (names : ℕ → ℕ → Meaning) (under : Made) (lying : List Open) (sizes : List ℕ) (w : World (List ℕ) B) where
   -- where a borrow was used
   pub sound_used : (b : ℕ) → w.keeps ≡ true → sizes_of w ≡ sizes
       → IsSafe types owner acts hold names under (memory_of w) (with_use b (told_of lying w))

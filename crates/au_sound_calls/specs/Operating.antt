@@ -13,11 +13,12 @@ use Rattle.au_memory.specs.Forests.{Holds, Made}
 use Rattle.au_memory.specs.Loans.{Types}
 use Rattle.au_memory.specs.Trees.{Value}
 use Rattle.au_borrows.specs.Orders.{Act}
+use Rattle.au_borrows.specs.Told.{Open}
 use Rattle.au_sound_calls.specs.Granting.{IsOptionOf}
 use Rattle.au_sound_calls.specs.Sound.{AreTyped, IsSound, IsToldWell}
 
 module _ (B : Type 0) (types : Types) (owner : B → Option (List ℕ)) (acts : List Act) (hold : Holds)
-    (names : ℕ → ℕ → Meaning) (under : Made) (lying sizes : List ℕ) (w : World (List ℕ) B) where
+    (names : ℕ → ℕ → Meaning) (under : Made) (lying : List Open) (sizes : List ℕ) (w : World (List ℕ) B) where
   -- An operation comes to a value of this type, over these; or it aborts. There is a rule for it.
   abbrev pub ComesWell : Meaning → Result (List ℕ) → Type 0
   ComesWell t (value v) = IsSound types owner acts hold names ((v, t) ∷ under) lying sizes w

@@ -11,10 +11,11 @@ use Rattle.au_memory.specs.Forests.{Holds, Made}
 use Rattle.au_memory.specs.Loans.{Types}
 use Rattle.au_memory.specs.Trees.{Value}
 use Rattle.au_borrows.specs.Orders.{Act}
+use Rattle.au_borrows.specs.Told.{Open}
 use Rattle.au_sound_calls.specs.Sound.{AreTyped, GoesWell, IsSound}
 
 module _ (B : Type 0) (types : Types) (owner : B → Option (List ℕ)) (acts : List Act) (hold : Holds)
-    (names : ℕ → ℕ → Meaning) (under : Made) (lying sizes : List ℕ) (w : World (List ℕ) B) where
+    (names : ℕ → ℕ → Meaning) (under : Made) (lying : List Open) (sizes : List ℕ) (w : World (List ℕ) B) where
   -- a call with these arguments, which are under way so, goes well
   abbrev pub IsGood : ShippedCall → Option B → Made → List Value → Meaning → Type 0
   IsGood call kind made args t =

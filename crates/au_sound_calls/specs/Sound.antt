@@ -12,6 +12,7 @@ use Rattle.au_lending.specs.Buffers.{BuffersAreAlone}
 use Rattle.au_lending.specs.Laws.{BoxesAreAlone}
 use Rattle.au_lending.specs.Parting.{CasesAreAlone}
 use Rattle.au_borrows.specs.Orders.{Act}
+use Rattle.au_borrows.specs.Told.{Open}
 use Rattle.au_acting.specs.Granting.{GrantsAreAlone}
 use Rattle.au_acting.specs.Safe.{IsSafe}
 use Rattle.au_agreeing.specs.Stores.{memory_of, sizes_of, told_of}
@@ -20,7 +21,7 @@ module _ {B : Type 0} (types : Types) (owner : B → Option (List ℕ)) (acts : 
     (type : ℕ → ℕ → Meaning) where
   -- A store with these values under way, these borrows open, and so many names in its frames is as it should be: its
   -- deeds are kept, and its memory and what is told of it are as they should be.
-  pub record IsSound (under : Made) (lying sizes : List ℕ) (w : World (List ℕ) B) : Type 0 where
+  pub record IsSound (under : Made) (lying : List Open) (sizes : List ℕ) (w : World (List ℕ) B) : Type 0 where
     pub keeps : w.keeps ≡ true
     pub sized : sizes_of w ≡ sizes
     pub safe : IsSafe types owner acts hold type under (memory_of w) (told_of lying w)
@@ -31,7 +32,7 @@ module _ {B : Type 0} (types : Types) (owner : B → Option (List ℕ)) (acts : 
 
   -- A shipped call comes to a value of this type, over these, in such a store; or it aborts in one that was told well.
   -- There is a rule for it, and it doesn't wait.
-  abbrev pub GoesWell : Meaning → Made → (lying sizes : List ℕ) → Answer (List ℕ) B → Type 0
+  abbrev pub GoesWell : Meaning → Made → (lying : List Open) (sizes : List ℕ) → Answer (List ℕ) B → Type 0
   GoesWell t under lying sizes (gives v w) = IsSound ((v, t) ∷ under) lying sizes w
   GoesWell t under lying sizes (writes bytes w) = IsSound ((unit, t) ∷ under) lying sizes w
   GoesWell t under lying sizes waits = ⊥

@@ -10,7 +10,7 @@ use Rattle.au_syntax.specs.Plain.{Bytes}
 use Rattle.au_memory.specs.Forests.{Made}
 use Rattle.au_memory.specs.Loans.{Types}
 use Rattle.au_lending.specs.Ending.{freed}
-use Rattle.au_borrows.specs.Orders.{Act, is_active}
+use Rattle.au_borrows.specs.Orders.{Act, Lying, is_active}
 use Rattle.au_running_judgements.specs.Frames.{Frame}
 use Rattle.au_meaning.specs.Acts.{closed_to, closing}
 use Rattle.au_meaning.specs.Expressions.{eval, whole}
@@ -54,7 +54,7 @@ module _ (types : Types) (owner : ClosedType → Option (List ℕ)) (laws : Acti
     (waiting : AllWait (is_active older) fs) where
   -- What a whole expression leaves: its value is of a type of which this holds, names are consumed as it says, and as
   -- many borrows lie open as before.
-  pub record Gave (A : Meaning → Type 0) (hold : Standing) (under : Made) (lying : List ℕ) (v : Value) (n : World)
+  pub record Gave (A : Meaning → Type 0) (hold : Standing) (under : Made) (lying : Lying) (v : Value) (n : World)
       : Type 0 where
     pub of : Meaning
     pub is : A of
@@ -97,7 +97,7 @@ module _ (types : Types) (owner : ClosedType → Option (List ℕ)) (laws : Acti
           let z = a.token in
           let made = (v, t) ∷ under in
           let count : length a.base ≡ length w.borrows =
-          ap (λ (xs : List ℕ). length xs) based
+          ap (λ (xs : Lying). length xs) based
           ∙ sym (laws.counted older (frame h names ∷ fs) sizes under w).0 in
           let ended = laws.ended (a ∷ older) (frame after.hold names ∷ fs) sizes ((v, t) ∷ under) n a older refl
           after.state in

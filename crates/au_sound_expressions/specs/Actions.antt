@@ -25,7 +25,7 @@ use Rattle.au_meaning.specs.Ticks.{comes, follows, needing, pure}
 use Rattle.au_meaning.specs.Worlds.{Value, World}
 use Rattle.au_running_judgements.specs.Sound.{AreTyped}
 use Rattle.au_running_judgements.specs.Behind.{ReadersReadWell, WritersReadWell}
-use Rattle.au_running_judgements.specs.Good.{Good, IsIn, IsOrderly, IsRunning}
+use Rattle.au_running_judgements.specs.Good.{Good, IsCutWell, IsIn, IsRunning}
 use Rattle.au_running_judgements.specs.Lending.{LendsWell, ReadsWell, RelendsWell}
 use Rattle.au_running_judgements.specs.Making.{CopiesWell, MakesFreeWell, MakesLinearWell, values_of}
 use Rattle.au_running_judgements.specs.Naming.{LooksWell, MovesWell}
@@ -42,7 +42,7 @@ module _ (types : Types) (owner : ClosedType → Option (List ℕ)) (acts : List
   module _ (fs : List Frame) (sizes : List ℕ) (under : Made) (w : World) where
     -- What was told of a world is as it should be.
     abbrev pub ToldWell : Type 0
-    ToldWell = IsIn types owner acts fs sizes under w → IsOrderly owner w
+    ToldWell = IsIn types owner acts fs sizes under w → IsCutWell owner w
 
     -- A value that holds nothing comes under way.
     abbrev pub PlainsWell : Type 0
