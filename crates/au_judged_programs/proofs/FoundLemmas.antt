@@ -29,7 +29,7 @@ use Rattle.au_names.specs.declared.targets.Target.{Target}
 use Rattle.au_names.specs.Exporting.{declarations_seen}
 use Rattle.au_names.specs.HeadsOf.{heads_of}
 use Rattle.au_names.specs.Importing.{imported, place_of}
-use Rattle.au_names.specs.Meanings.{imports_in, part_of, pervasive}
+use Rattle.au_names.specs.Meanings.{imports_in, meanings, part_of, pervasive}
 use Rattle.au_names.specs.Owned.{declarations_in, declarations_of, own, target as target_here, targets}
 use Rattle.au_names.specs.Standing.{Standing, body_standing, module_standing, standing_at, standing_from, standing_in}
 use Rattle.au_names.proofs.AmongLemmas.{Among, among-append_left, among-append_right, among-flat_map_from}
@@ -127,7 +127,8 @@ written_in name (function_body at gs h block stop) f e = by (bytes_eq name h.nam
   where
     by : (b : Bool) → bytes_eq name h.name.name ≡ b
         → (if b then Some (record { at = at; generics = gs; header = h }) else None) ≡ Some f
-        → (Some (gs, h) ≡ Some (f.generics, f.header)) × (f.header.name.name ≡ name)
+        → ◌≡◌ {A = Option (List (Constrained Bytes) × Header Bytes)} (Some (gs, h)) (Some (f.generics, f.header))
+        × (f.header.name.name ≡ name)
         × Among name (h.name.name ∷ [])
     by true same e =
         let its = same_Some (record { at = at; generics = gs; header = h }) f e in
@@ -476,14 +477,16 @@ module _ (program : List ModuleParts) (noted : List NotedParts) (erased : erase_
           (get_right (declarations_in m.interface) (declarations_in m.body) first.index ∙ first.there)
           (written_in name first.says f first.is).2
 
-      others : List (Bytes × Target)
-      others = imported Callables program place (imports_in (part_of Body m)) ++ pervasive Callables program
+      brought : List (Bytes × Target)
+      brought = imported Callables program place (imports_in (part_of Body m))
 
       same : target_here place name its.number ≡ t
       same = same_Some (target_here place name its.number) t
           (sym (ap (λ o. tables.find name (seen_in Callables program place Body o)) is
-          ∙ find-firsts name (own Callables place m ++ others)
-          ∙ find-front name (own Callables place m) others (target_here place name (0 + its.number)) its.found
+          ∙ find-firsts name (meanings Callables program place m Body)
+          ∙ find-front name (own Callables place m ++ brought) (pervasive Callables program)
+          (target_here place name (0 + its.number))
+          (find-front name (own Callables place m) brought (target_here place name (0 + its.number)) its.found)
           ∙ ap (λ n. Some (target_here place name n)) (zero_before its.number)) ∙ means)
         where
           zero_before : (n : ℕ) → 0 + n ≡ n

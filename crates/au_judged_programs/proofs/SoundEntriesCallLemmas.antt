@@ -5,27 +5,17 @@ use Rattle.au_modules.specs.Programs.{ModuleParts}
 use Rattle.au_judged_bodies.specs.Trees.{NotedParts}
 use Rattle.au_judged_programs.proofs.CallsRunCallLemmas.{all_run}
 use Rattle.au_judged_programs.proofs.CheckedLemmas.{program_fits}
-use Rattle.au_judged_programs.proofs.MethodLemmas.{methods_seen}
+use Rattle.au_judged_programs.proofs.MethodLemmas.{methods_of_programs}
 use Rattle.au_judged_programs.proofs.ShippedCallLemmas.{shipped_seen}
-use Rattle.au_judged_programs.proofs.ShippedMethodSeenLemmas.{shipped_method_seen}
 use Rattle.au_judged_programs.specs.RunningBodiesBodies.{generics_of}
 use Rattle.au_judged_programs.specs.Entries.{CallsOfProgramsRun, OthersOfProgramsAreSeen}
-use Rattle.au_judged_programs.specs.ShippedMethods.{ShippedMethodsAreSeen}
-
--- calls of methods whose instances are shipped
-pub shipped_methods : (program : List ModuleParts) (noted : List NotedParts) → ShippedMethodsAreSeen program noted
-shipped_methods program noted checked place params regions given s z active runs note name target d called put declared param
-    row call is_a_class leading found_row shipped_so means found declares well notes of puts =
-    shipped_method_seen program noted checked place params regions given s z active runs note name target d called put
-    declared param row call leading found_row shipped_so means found declares well notes of puts
 
 -- calls of shipped functions and of methods
 pub others_seen : (program : List ModuleParts) (noted : List NotedParts) → OthersOfProgramsAreSeen program noted
 others_seen program noted checked key regions s z active runs holds =
     let generics : List Bounded = generics_of program noted key.body key.one.given in (
       shipped_seen program noted checked key.body.place (parameters generics) regions key.one.given s z active runs,
-      methods_seen program noted (shipped_methods program noted) checked key.body.place generics key.one.given regions s z
-          active runs holds,
+      methods_of_programs program noted checked key.body.place generics key.one.given regions s z active runs holds,
     )
 
 -- all calls
