@@ -44,8 +44,9 @@ pub record RunPromises (call : Call) (files : Files) (task : Task) : Type 0 wher
   pub bounded : (run : Run) → IsToRun files task run → IsInStep run
   -- Each run of its program is sound, on whatever input and for however many ticks: it isn't stuck; each
   -- linear value is consumed at most once, and exactly once where the run returns; each use of a reference
-  -- stands inside its borrow, and each borrow is closed where the run returns; and what is born of an opaque
-  -- type is born in the module that declares it.
+  -- stands inside its borrow, and each borrow is closed where the run returns; what is born of an opaque type
+  -- is born in the module that declares it; and at each tick no two references that are held for one open
+  -- write borrow overlap, and none overlaps what an open read borrow sees.
   pub sound : (run : Run) → IsToRun files task run → AllRunsAreSound run.program
   -- With `--life` the lines of the events of the run stand before its line: they are those of what its
   -- program means where the run has ended, and lie between those of that, as its output does, where the
