@@ -1,5 +1,5 @@
 -- Calls of methods whose instances are shipped.
-use Rattle.std.proofs.Common.{◌≡◌, ℕ, Bool, true, List, [], ◌∷◌, map, Option, None, Some, refl}
+use Rattle.std.proofs.Common.{◌≡◌, ℕ, Bool, true, true≢false, List, [], ◌∷◌, map, Option, None, Some, refl}
 use Rattle.std.proofs.Common.{sym, ap, ◌∙◌, subst, find}
 use Rattle.std.specs.Prelude.{codes, unwrap_or}
 use Rattle.std.specs.Option.{option_map}
@@ -224,54 +224,54 @@ module _ (program : List ModuleParts) (noted : List NotedParts) (checked : IsChe
         ≡ leads_to one
         → names_of called.parameters ≡ names_taken one
         → kinds_taken s z put called.parameters ≡ map (λ (n : Bytes). put_so) (names_taken one) → Seen
-    seen_with truth prim.PrintBool shut e sees names kinds = record {
+    seen_with truth prim.PrintBool shut e lead names kinds = record {
       one = record { parameters = codes "value" ∷ []; act = ships prim.PrintBool None };
-      seen = λ c. sees;
+      seen = λ c. lead;
       parameters = sym names;
       apart = well.apart;
       performs = (refl, (kinds_are truth shut refl (names_taken prim.PrintBool) kinds, no_value e));
     }
-    seen_with truth prim.PrintLnBool shut e sees names kinds = record {
+    seen_with truth prim.PrintLnBool shut e lead names kinds = record {
       one = record { parameters = codes "value" ∷ []; act = ships prim.PrintLnBool None };
-      seen = λ c. sees;
+      seen = λ c. lead;
       parameters = sym names;
       apart = well.apart;
       performs = (refl, (kinds_are truth shut refl (names_taken prim.PrintLnBool) kinds, no_value e));
     }
-    seen_with text prim.PrintText shut e sees names kinds = record {
+    seen_with text prim.PrintText shut e lead names kinds = record {
       one = record { parameters = codes "value" ∷ []; act = ships prim.PrintText None };
-      seen = λ c. sees;
+      seen = λ c. lead;
       parameters = sym names;
       apart = well.apart;
       performs = (refl, (kinds_are text shut refl (names_taken prim.PrintText) kinds, no_value e));
     }
-    seen_with text prim.PrintLnText shut e sees names kinds = record {
+    seen_with text prim.PrintLnText shut e lead names kinds = record {
       one = record { parameters = codes "value" ∷ []; act = ships prim.PrintLnText None };
-      seen = λ c. sees;
+      seen = λ c. lead;
       parameters = sym names;
       apart = well.apart;
       performs = (refl, (kinds_are text shut refl (names_taken prim.PrintLnText) kinds, no_value e));
     }
-    seen_with (integer k) prim.PrintInt shut e sees names kinds = record {
+    seen_with (integer k) prim.PrintInt shut e lead names kinds = record {
       one = record { parameters = codes "value" ∷ []; act = ships prim.PrintInt None };
-      seen = λ c. sees;
+      seen = λ c. lead;
       parameters = sym names;
       apart = well.apart;
       performs = (refl, (k, (kinds_are (integer k) shut refl (names_taken prim.PrintInt) kinds, no_value e)));
     }
-    seen_with (integer k) prim.PrintLnInt shut e sees names kinds = record {
+    seen_with (integer k) prim.PrintLnInt shut e lead names kinds = record {
       one = record { parameters = codes "value" ∷ []; act = ships prim.PrintLnInt None };
-      seen = λ c. sees;
+      seen = λ c. lead;
       parameters = sym names;
       apart = well.apart;
       performs = (refl, (k, (kinds_are (integer k) shut refl (names_taken prim.PrintLnInt) kinds, no_value e)));
     }
-    seen_with (integer k) (prim.Wrap op other) shut e sees names kinds =
+    seen_with (integer k) (prim.Wrap op other) shut e lead names kinds =
         let both = and_parts (sameb kind other k) (is_the_parameter (over_class h.result)) e in
         let same : k ≡ other = sym (same_true kind tt other k both.0) in
         record {
           one = record { parameters = codes "lhs" ∷ codes "rhs" ∷ []; act = ships (prim.Wrap op other) None };
-          seen = λ c. sees;
+          seen = λ c. lead;
           parameters = sym names;
           apart = well.apart;
           performs = (
@@ -280,9 +280,9 @@ module _ (program : List ModuleParts) (noted : List NotedParts) (checked : IsChe
             its_own both.1 ∙ only_flat put_so (integer k) shut refl ∙ ap (λ i. whole.integer i) same,
           );
         }
-    seen_with (integer k) (prim.Convert to) shut e sees names kinds = record {
+    seen_with (integer k) (prim.Convert to) shut e lead names kinds = record {
       one = record { parameters = codes "value" ∷ []; act = ships (prim.Convert to) None };
-      seen = λ c. sees;
+      seen = λ c. lead;
       parameters = sym names;
       apart = well.apart;
       performs = (
@@ -293,7 +293,7 @@ module _ (program : List ModuleParts) (noted : List NotedParts) (checked : IsChe
             called.result its.1 s z put),
       );
     }
-    seen_with u one shut e sees names kinds = absurd cc
+    seen_with u one shut e lead names kinds = absurd (true≢false (sym e))
 
     seen : Seen
     seen = seen_with t here closes parts.1 sees taken.0 taken.1
