@@ -47,7 +47,7 @@ report_of-requires g c =
     let out' = g.O.Sink.written c.run.new.out in
     let events = c.run.new.self.events in
     let ended = c.in_ok-end.end in
-    said_unstuck c.args.code.now c.args.life ended c.args.steps told left out out' events c.args.requires
+    said_unstuck c.args.code.now c.args.life ended c.args.steps told left out out' events c.requires
     (subst (λ (m : Loaded). Says ended (low_run m.keeps m.code) c.args.steps told left out out' events)
     c.in_ok-machine.ensures c.in_ok-end.ensures.says)
 

@@ -37,7 +37,7 @@ pub run_code-requires : goal.run_code-requires
 run_code-requires g c =
     let has = c.in-Ok.ensures.is in
     never_stuck (slots.modules c.args.program.now) has.0 c.args.entry.now.«module» c.args.entry.now.function
-    c.stuck_runs_are_meant.ensures has.1 c.args.requires c.in-Ok.code has.2
+    c.stuck_runs_are_meant.ensures has.1 c.requires c.in-Ok.code has.2
 
 pub returns-in-Ok-clause-ran : goal.returns-in-Ok-clause-ran
 returns-in-Ok-clause-ran g c =

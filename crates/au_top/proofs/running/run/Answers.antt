@@ -71,4 +71,4 @@ returns g c =
 
 -- It is safe to run from its entry.
 pub run_program-requires : goal.run_program-requires
-run_program-requires g c = safe_from (slots.modules c.args.program.now) c.args.requires _ _
+run_program-requires g c = safe_from (slots.modules c.args.program.now) c.requires _ _
