@@ -8,14 +8,14 @@ use Rattle.au_top.proofs.ArisesLemmas.{arises_outcome}
 use Rattle.au_top.proofs.SoundLemmas.{arises_safe}
 use Rattle.au_top.proofs.top.ended.Goals as goal
 
-pub answer-requires-outcome : goal.answer-requires-outcome
-answer-requires-outcome g c =
+pub answer-requires-clause-outcome : goal.answer-requires-clause-outcome
+answer-requires-clause-outcome g c =
     let found = c.in-Ok.ensures.arises in
     arises_outcome (map string_bytes c.args.words.now) found.0 (map string_bytes c.in-Ok.asked.files.items)
     c.in-Ok.outcome found.2
 
-pub answer-requires-safe : goal.answer-requires-safe
-answer-requires-safe g c =
+pub answer-requires-clause-safe : goal.answer-requires-clause-safe
+answer-requires-clause-safe g c =
     let found = c.in-Ok.ensures.arises in
     arises_safe c.accepted_programs_are_sound.ensures (map string_bytes c.args.words.now) found.0
     (map string_bytes c.in-Ok.asked.files.items) c.in-Ok.outcome found.2
