@@ -22,7 +22,7 @@ use Rattle.au_parser.proofs.FileForm.{file_sound, file_found}
 use Rattle.au_parser.proofs.Lower.{lower}
 use Rattle.au_fault_places.specs.Measures.{Measured, Measures, measures}
 use Rattle.au_fault_places.specs.Passing.{passed_by, Passes, Keep, KeepOver, PassBehind, SameMeasure, Agree, PassesAt}
-use Rattle.au_fault_places.specs.Passing.{EndsWithArrow}
+use Rattle.au_fault_places.specs.Passing.{EndsWithArrow, KeepsLimits}
 use Rattle.au_fault_places.proofs.Told.{Tells, Agrees}
 use Rattle.au_fault_places.proofs.Levels.{tests, passing}
 use Rattle.au_fault_places.proofs.Files.{module_kind, file_honest}
@@ -197,6 +197,16 @@ module _ (b : Bounds) (ts : List Token) where
           g.spelled in
           same_kind b b.nesting kind other (take i ts) (measures g.tree) w.2 g.passes
 
+  -- tokens that pass no limit in some file pass none
+  pub none_kept : (i : ℕ) (kind : LimitKind) → PassesAt b ts i kind → (place : ℕ) → KeepsLimits b (take place ts) →
+      i < place → ⊥
+  none_kept i kind h place k less =
+      let c = fewer (i + 1) place ts (omega (arith, less)) in
+      let q = passes_in i kind h k.tree (take place ts) c.0 k.rest k.formed c.1 k.spelled in
+      not_kept b b.nesting kind (take i ts) q.0 c.0 (measures k.tree) q.2
+      (subst (λ us. KeepOver (passed_by b b.nesting) us (measures k.tree))
+      (c.1 ∙ ap (λ us. us ++ c.0) q.1 ∙ append_assoc (take i ts) (q.0 ∷ []) c.0) k.keeps)
+
   -- what is passed first is told, unless the fault stands right behind `=>`
   told_by : (i : ℕ) (kind : LimitKind) → PassesAt b ts i kind → (r : Read PlainModule) → file_at b ts ≡ r →
       Tells (passing b b.nesting) module_kind ts r →
@@ -211,14 +221,9 @@ module _ (b : Bounds) (ts : List Token) where
   told_by i kind h (Err (Syntax left)) e w =
       let place : ℕ = length ts - left in
       let less = passes_before b ts i place kind h (syntax_place b ts left e) in
-      let c = fewer (i + 1) place ts (omega (arith, less)) in
       elim (limits_kept b ts left e) [
         | inr arrow ↦ inr (left, refl, arrow)
-        | inl k ↦
-            let q = passes_in i kind h k.tree (take place ts) c.0 k.rest k.formed c.1 k.spelled in
-            absurd (not_kept b b.nesting kind (take i ts) q.0 c.0 (measures k.tree) q.2
-            (subst (λ us. KeepOver (passed_by b b.nesting) us (measures k.tree))
-            (c.1 ∙ ap (λ us. us ++ c.0) q.1 ∙ append_assoc (take i ts) (q.0 ∷ []) c.0) k.keeps))
+        | inl k ↦ absurd (none_kept i kind h place k less)
       ]
   told_by i kind h (Err (Passed l left)) e w =
       let g = limit_place b ts l left e in
