@@ -2,6 +2,10 @@ pub mod Told
 pub mod Ways
 pub mod Lists
 pub mod Single
+pub mod Levels
+pub mod TypeDepths
+pub mod TypeCounts
+pub mod SameTypes
 pub mod Types
 pub mod Atoms
 pub mod Expressions
@@ -12,4 +16,6 @@ pub mod Statements
 pub mod DeclarationParts
 pub mod Declarations
 pub mod Files
+pub mod SameWords
 pub mod Places
+pub mod Certain

@@ -4,6 +4,7 @@ use Rattle.std.proofs.Common.{◌++◌, length, take}
 use Rattle.std.proofs.Common.{Ok, Err, refl, sym, ap, ◌∙◌, subst, arith, inl, inr, ◌⊎◌, append_assoc, length-append}
 use Rattle.std.proofs.lemmas.Bool.{leb-true, leb-false}
 use Rattle.au_base.specs.declared.limits.Limit.{Limit}
+use Rattle.au_base.specs.declared.limits.LimitKind.{LimitKind}
 use Rattle.au_base.specs.declared.tokens.Token.{Token}
 use Rattle.au_syntax.specs.Plain.{PlainModule}
 use Rattle.au_read_expressions.specs.declared.faults.Fault.{Fault}
@@ -13,8 +14,14 @@ use Rattle.au_read_expressions.specs.Reading.{Read}
 use Rattle.au_parser.specs.ModuleReading.{file_at}
 use Rattle.au_parser.proofs.FileForm.{file_sound, file_found}
 use Rattle.au_parser.proofs.Lower.{lower}
+use Rattle.au_syntax.specs.Words.{AreWords, Spells}
 use Rattle.au_fault_places.specs.Fronts.{IsFile, BeginsFile, IsFaultPlace}
-use Rattle.au_fault_places.proofs.Told.{Begun, Tells, Alike, fault_of}
+use Rattle.au_fault_places.specs.Measures.{measures}
+use Rattle.au_fault_places.specs.Passing.{KeepsLimits, PassesAt, EndsWithArrow, IsLimit, PassBehind, passed_by}
+use Rattle.au_fault_places.proofs.Told.{AreMeasured, Is, Begun, Stopped, Tells, Alike, fault_of}
+use Rattle.au_fault_places.proofs.SameTypes.{are_words, are_measured}
+use Rattle.au_fault_places.proofs.SameWords.{of_file}
+use Rattle.au_fault_places.proofs.Levels.{passing}
 use Rattle.au_fault_places.proofs.Files.{module_kind, file_honest}
 
 -- which of two numbers is less
@@ -22,18 +29,18 @@ order_by : (a c : ℕ) (v : Bool) → nat_le a c ≡ v → (a ≤ c) ⊎ (c < a)
 order_by a c true e = inl (leb-true a c e)
 order_by a c false e = inr (leb-false a c e)
 
-order_of : (a c : ℕ) → (a ≤ c) ⊎ (c < a)
+pub order_of : (a c : ℕ) → (a ≤ c) ⊎ (c < a)
 order_of a c = order_by a c (nat_le a c) refl
 
 -- ---- tokens before a place
 
-take_of : (front back : List Token) → take (length front) (front ++ back) ≡ front
+pub take_of : (front back : List Token) → take (length front) (front ++ back) ≡ front
 take_of [] [] = refl
 take_of [] (t ∷ ts) = refl
 take_of (t ∷ front) back = ap (λ ts. t ∷ ts) (take_of front back)
 
 -- the tokens before a place, and those behind
-before_place : (n : ℕ) (ts : List Token) → n ≤ length ts → (back : List Token) × (ts ≡ take n ts ++ back)
+pub before_place : (n : ℕ) (ts : List Token) → n ≤ length ts → (back : List Token) × (ts ≡ take n ts ++ back)
     × (length (take n ts) ≡ n)
 before_place zero [] h = ([], refl, refl)
 before_place zero (t ∷ ts) h = (t ∷ ts, refl, refl)
@@ -42,7 +49,7 @@ before_place (suc n) (t ∷ ts) h = let p = before_place n ts (omega (arith, h))
     (p.0, ap (λ us. t ∷ us) p.1, ap suc p.2)
 
 -- fewer tokens of those before a place
-fewer : (m n : ℕ) (ts : List Token) → m ≤ n → (back : List Token) × (take n ts ≡ take m ts ++ back)
+pub fewer : (m n : ℕ) (ts : List Token) → m ≤ n → (back : List Token) × (take n ts ≡ take m ts ++ back)
 fewer zero n [] h = (take n [], refl)
 fewer zero n (t ∷ ts) h = (take n (t ∷ ts), refl)
 fewer (suc m) zero ts h = absurd (let wrong : ⊥ = omega (arith, h) in wrong)
@@ -50,13 +57,32 @@ fewer (suc m) (suc n) [] h = ([], refl)
 fewer (suc m) (suc n) (t ∷ ts) h = let p = fewer m n ts (omega (arith, h)) in (p.0, ap (λ us. t ∷ us) p.1)
 
 -- what begins with tokens that begin no file begins none
-begins_fewer : (m n : ℕ) (ts : List Token) → m ≤ n → BeginsFile (take n ts) → BeginsFile (take m ts)
+pub begins_fewer : (m n : ℕ) (ts : List Token) → m ≤ n → BeginsFile (take n ts) → BeginsFile (take m ts)
 begins_fewer m n ts h f =
     let p = fewer m n ts h in
     record {
       rest = p.0 ++ f.rest;
       file = subst IsFile (append_assoc (take m ts) p.0 f.rest) (subst (λ us. IsFile (us ++ f.rest)) p.1 f.file);
     }
+
+-- the tokens through a place
+pub through_of : (front back : List Token) (t : Token) → take (length front + 1) (front ++ t ∷ back) ≡ front ++ t ∷ []
+through_of [] back t = take_none back t
+  where
+    take_none : (back : List Token) (t : Token) → take 1 (t ∷ back) ≡ t ∷ []
+    take_none [] t = refl
+    take_none (u ∷ back) t = refl
+through_of (u ∷ front) back t =
+    let n : suc (length front) + 1 ≡ suc (length front + 1) = omega arith in
+    ap (λ k. take k (u ∷ front ++ t ∷ back)) n ∙ ap (λ ts. u ∷ ts) (through_of front back t)
+
+-- ---- trees and their words
+
+pub spelled_of : (m : PlainModule) (ts : List Token) → Is module_kind m ts → Spells m ts
+spelled_of m ts is = subst (λ ws. AreWords ws ts) (of_file m) (are_words (measures m) ts is.words)
+
+pub measured_of : (m : PlainModule) (ts : List Token) → Spells m ts → AreMeasured (measures m) ts
+measured_of m ts h = are_measured (measures m) ts (subst (λ ws. AreWords ws ts) (sym (of_file m)) h)
 
 -- ---- what is no file
 
@@ -102,13 +128,8 @@ module _ (b : Bounds) where
       through_none (take n ts) p.0 f.rest left (subst (λ us. file_at b us ≡ Err (Syntax left)) p.1 e)
       (omega (arith, l, p.2, h, most)) f.file
 
-  -- the tokens before a fault, whichever, begin some file
-  told : (ts : List Token) (r : Read PlainModule) (f : Fault) → r ≡ Err f → Tells module_kind ts r → Tells
-      module_kind ts (fault_of f)
-  told ts r f e h = subst (Tells module_kind ts) e h
-
-  begun_front : (ts : List Token) (left : ℕ) → Begun module_kind ts left → (left ≤ length ts) × BeginsFile
-      (take (length ts - left) ts)
+  begun_front : (ts : List Token) (left : ℕ) → Begun (passing b b.nesting) module_kind ts left → (left ≤ length ts) ×
+      BeginsFile (take (length ts - left) ts)
   begun_front ts left h =
       let l = ap length h.same ∙ length-append h.front h.back in
       let n : length ts - left ≡ length h.front = omega (arith, l, h.size) in (
@@ -117,15 +138,24 @@ module _ (b : Bounds) where
             (λ k. take k (h.front ++ h.back)) n
             ∙ take_of h.front h.back))
             (record {
-              rest = h.begins.rest;
-              file = record { tree = h.begins.tree; formed = h.begins.is.good; spelled = h.begins.is.words };
+              rest = h.rest;
+              file = record { tree = h.tree; formed = h.is.good; spelled = spelled_of h.tree (h.front ++ h.rest) h.is };
             }),
       )
+
+  -- what is told of a fault
+  pub begun_of : (ts : List Token) (left : ℕ) → file_at b ts ≡ Err (Syntax left) →
+      Begun (passing b b.nesting) module_kind ts left
+  begun_of ts left e = subst (Tells (passing b b.nesting) module_kind ts) e ((file_honest b).tells ts)
+
+  stopped_of : (ts : List Token) (l : Limit) (left : ℕ) → file_at b ts ≡ Err (Passed l left) →
+      Stopped (passing b b.nesting) module_kind ts l left
+  stopped_of ts l left e = subst (Tells (passing b b.nesting) module_kind ts) e ((file_honest b).tells ts)
 
   pub syntax_place : (ts : List Token) (left : ℕ) → file_at b ts ≡ Err (Syntax left) → IsFaultPlace ts
       (length ts - left)
   syntax_place ts left e =
-      let f = begun_front ts left (told ts (file_at b ts) (Syntax left) e ((file_honest b).tells ts)) in
+      let f = begun_front ts left (begun_of ts left e) in
       record {
         within = omega arith;
         before = f.1;
@@ -133,16 +163,62 @@ module _ (b : Bounds) where
         short = no_file ts left e;
       }
 
-  pub limit_before : (ts : List Token) (l : Limit) (left place : ℕ) → file_at b ts ≡ Err (Passed l left) →
-      IsFaultPlace ts place →
-      length ts - left ≤ place
-  limit_before ts l left place e p =
-      let f = begun_front ts left (told ts (file_at b ts) (Passed l left) e ((file_honest b).tells ts)) in
-      elim (order_of (length ts - left) place) [
-        | inl h ↦ h
-        | inr h ↦ absurd (p.through (omega (arith, h))
-            (begins_fewer (place + 1) (length ts - left) ts (omega (arith, h)) f.1))
-      ]
+  -- where a limit is told, some file passes it first with a token
+  pub limit_place : (ts : List Token) (l : Limit) (left : ℕ) → file_at b ts ≡ Err (Passed l left) →
+      (place : ℕ) × PassesAt b ts place l.kind × IsLimit b l
+  limit_place ts l left e =
+      let h = stopped_of ts l left e in
+      let size = ap length h.same ∙ length-append h.front (h.last ∷ h.back) in
+      let front : take (length h.front) ts ≡ h.front =
+      ap (take (length h.front)) h.same ∙ take_of h.front (h.last ∷ h.back) in
+      let through : take (length h.front + 1) ts ≡ h.front ++ h.last ∷ [] =
+      ap (take (length h.front + 1)) h.same ∙ through_of h.front h.back h.last in (
+        length h.front,
+        record {
+          within = omega (arith, size);
+          tree = h.tree;
+          rest = h.rest;
+          formed = h.is.good;
+          spelled = subst (λ us. Spells h.tree (us ++ h.rest)) (sym through)
+              (subst (Spells h.tree) (sym (append_assoc h.front (h.last ∷ []) h.rest))
+              (spelled_of h.tree (h.front ++ h.last ∷ h.rest) h.is));
+          passes = subst (λ us. PassBehind (passed_by b b.nesting) l.kind us (measures h.tree)) (sym front)
+              h.passes;
+        },
+        h.told,
+      )
+
+  -- where reading stops, the tokens before begin some file and pass no limit in it, unless the last is `=>`
+  pub limits_kept : (ts : List Token) (left : ℕ) → file_at b ts ≡ Err (Syntax left) →
+      KeepsLimits b (take (length ts - left) ts) ⊎ EndsWithArrow (take (length ts - left) ts)
+  limits_kept ts left e =
+      let h = begun_of ts left e in
+      let l = ap length h.same ∙ length-append h.front h.back in
+      let n : length ts - left ≡ length h.front = omega (arith, l, h.size) in
+      let same : take (length ts - left) ts ≡ h.front =
+      ap (λ us. take (length ts - left) us) h.same ∙ ap (λ k. take k (h.front ++ h.back)) n ∙ take_of h.front h.back in
+      subst (λ us. KeepsLimits b us ⊎ EndsWithArrow us) (sym same)
+      (elim h.keeps [
+        | inl keeps ↦ inl (record {
+          tree = h.tree;
+          rest = h.rest;
+          formed = h.is.good;
+          spelled = spelled_of h.tree (h.front ++ h.rest) h.is;
+          keeps = keeps;
+        })
+        | inr arrow ↦ inr arrow
+      ])
+
+-- a token with which a limit is passed comes before the place of the fault
+pub passes_before : (b : Bounds) (ts : List Token) (i place : ℕ) (kind : LimitKind) → PassesAt b ts i kind →
+    IsFaultPlace ts place → i < place
+passes_before b ts i place kind h p =
+    elim (order_of place i) [
+      | inr less ↦ less
+      | inl more ↦ absurd (p.through (let r : place < length ts = omega (arith, more, h.within) in r)
+          (begins_fewer (place + 1) (i + 1) ts (omega (arith, more))
+          (record { rest = h.rest; file = record { tree = h.tree; formed = h.formed; spelled = h.spelled } })))
+    ]
 
 pub one_place : (ts : List Token) (a b : ℕ) → IsFaultPlace ts a → IsFaultPlace ts b → a ≡ b
 one_place ts a b p q =
@@ -164,17 +240,20 @@ module _ (b : Bounds) where
 
   told_by : (ts : List Token) (place : ℕ) → IsFaultPlace ts place → (r : Read PlainModule) → file_at b ts ≡ r
       → (r ≡ Err (Syntax (length ts - place)))
-      ⊎ ((l : Limit) × (left : ℕ) × (r ≡ Err (Passed l left)) × (length ts - left ≤ place))
+      ⊎ ((l : Limit) × (left : ℕ) × (r ≡ Err (Passed l left)) × ((i : ℕ) × PassesAt b ts i l.kind × (i < place)))
   told_by ts place p (Ok x) e = absurd (p.short (file_is ts x.1 x.0 e))
   told_by ts place p (Err (Syntax left)) e =
-      let f = begun_front b ts left (told b ts (file_at b ts) (Syntax left) e ((file_honest b).tells ts)) in
+      let f = begun_front b ts left (begun_of b ts left e) in
       let same = one_place ts (length ts - left) place (syntax_place b ts left e) p in
       let n : left ≡ length ts - place = omega (arith, same, f.0) in
       inl (ap (λ k. fault_of (Syntax k)) n)
-  told_by ts place p (Err (Passed l left)) e = inr (l, left, refl, limit_before b ts l left place e p)
+  told_by ts place p (Err (Passed l left)) e =
+      let h = limit_place b ts l left e in
+      inr (l, left, refl, (h.0, h.1, passes_before b ts h.0 place l.kind h.1 p))
 
-  -- what has a place of a fault is told with it, or with a limit that is met no later
+  -- what has a place of a fault is told with it, or with a limit that is passed before
   pub place_told : (ts : List Token) (place : ℕ) → IsFaultPlace ts place
       → (file_at b ts ≡ Err (Syntax (length ts - place)))
-      ⊎ ((l : Limit) × (left : ℕ) × (file_at b ts ≡ Err (Passed l left)) × (length ts - left ≤ place))
+      ⊎ ((l : Limit) × (left : ℕ) × (file_at b ts ≡ Err (Passed l left))
+      × ((i : ℕ) × PassesAt b ts i l.kind × (i < place)))
   place_told ts place p = told_by ts place p (file_at b ts) refl

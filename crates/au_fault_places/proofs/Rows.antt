@@ -6,45 +6,36 @@ use Rattle.au_base.specs.declared.tokens.Token.{Token}
 use Rattle.au_base.specs.declared.tokens.What.{What}
 use Rattle.au_read_expressions.specs.Reading.{Read, ◌>>=◌, no, front, same_what, tokens_at, behind_tokens}
 use Rattle.au_read_expressions.specs.Reading.{pair, built_at, built}
-use Rattle.au_fault_places.proofs.Told.{Kind, Alike, Honest, past_alike}
+use Rattle.au_fault_places.proofs.Told.{Passing, Kind, Alike, Agrees, Honest, past_alike, agrees_empty}
 use Rattle.au_fault_places.proofs.Ways.{honest_past, no_alike, behind_kind, pair_kind, behind_honest, pair_honest}
 use Rattle.au_fault_places.proofs.Ways.{Builds, built_honest, Opens, behind_opens, bind_opens}
-use Rattle.au_fault_places.proofs.Ways.{built_opens, open_alike}
+use Rattle.au_fault_places.specs.Measures.{Measured}
+use Rattle.au_fault_places.proofs.Ways.{Heads, heads_agree, built_opens, open_alike}
 
 -- a part, and another behind tokens
-pub pair_behind : {A B : Type 0} (kind : Kind A) (other : Kind B) (read : List Token → Read A) → Honest kind read →
-    (after : List Token → Read B) → Honest other after → (whats : List What)
-    → Honest (pair_kind kind (behind_kind other whats)) (pair read (behind_tokens whats after))
-pair_behind kind other read first after second whats =
-    pair_honest kind (behind_kind other whats) read first (behind_tokens whats after)
-    (behind_honest other whats after second)
+pub pair_behind : {A B : Type 0} (P : Passing) (kind : Kind A) (other : Kind B) (read : List Token → Read A) →
+    Honest P kind read → (after : List Token → Read B) → Honest P other after → (whats : List What)
+    → Honest P (pair_kind kind (behind_kind other whats)) (pair read (behind_tokens whats after))
+pair_behind P kind other read first after second whats =
+    pair_honest P kind (behind_kind other whats) read first (behind_tokens whats after)
+    (behind_honest P other whats after second)
 
 -- a row: what is told of it, and the first tokens that it takes
-pub record Row {A : Type 0} (kind : Kind A) (opens : What → Bool) (read : List Token → Read A) : Type 0 where
-  pub honest : Honest kind read
-  pub opened : Opens opens read
+pub record Row {A : Type 0} (P : Passing) (kind : Kind A) (opens : What → Bool) (read : List Token → Read A) : Type 0
+  where
+    pub honest : Honest P kind read
+    pub opened : Opens opens read
 
 -- a row that begins with a token
-pub behind_row : {A B : Type 0} (kind : Kind A) (other : Kind B) (w : What) (ws : List What)
-    (read : List Token → Read A)
-    (honest : Honest kind read) (build : Pos → A → B)
-    → Builds (behind_kind kind (w ∷ ws)) other (behind_tokens (w ∷ ws) read)
-    (behind_honest kind (w ∷ ws) read honest) build
-    → Row other (λ what. same_what what w) (built build (behind_tokens (w ∷ ws) read))
-behind_row kind other w ws read honest build builds = record {
-  honest = built_honest (behind_kind kind (w ∷ ws)) other (behind_tokens (w ∷ ws) read)
-      (behind_honest kind (w ∷ ws) read honest) build builds;
+pub behind_row : {A B : Type 0} (P : Passing) (kind : Kind A) (other : Kind B) (w : What) (ws : List What)
+    (read : List Token → Read A) (honest : Honest P kind read) (build : Pos → A → B)
+    → Builds (behind_kind kind (w ∷ ws)) other build
+    → Row P other (λ what. same_what what w) (built build (behind_tokens (w ∷ ws) read))
+behind_row P kind other w ws read honest build builds = record {
+  honest = built_honest P (behind_kind kind (w ∷ ws)) other (behind_tokens (w ∷ ws) read)
+      (behind_honest P kind (w ∷ ws) read honest) build builds;
   opened = built_opens (λ what. same_what what w) (behind_tokens (w ∷ ws) read)
-      (behind_opens w ws read (honest_past kind read honest)) build;
-}
-
--- a row that begins with a part
-pub part_row : {A B : Type 0} (kind : Kind A) (other : Kind B) (opens : What → Bool) (read : List Token → Read A)
-    (honest : Honest kind read) → Opens opens read → (build : Pos → A → B) → Builds kind other read honest build
-    → Row other opens (built build read)
-part_row kind other opens read honest o build builds = record {
-  honest = built_honest kind other read honest build builds;
-  opened = built_opens opens read o build;
+      (behind_opens w ws read (honest_past P kind read honest)) build;
 }
 
 -- two rows that begin with the same token, and whose parts take the same first tokens
@@ -65,25 +56,36 @@ module _ {A B C : Type 0} (w : What) (opens : What → Bool) (read : List Token 
   two_alike t u b c = two_by t u b c (same_what t.what w)
 
 -- by the second and third token
-module _ {A : Type 0} (kind : Kind A) (by : Option What → Option What → List Token → Read A)
-    (each : (v w : Option What) → Honest kind (by v w)) (opens : What → Bool)
+module _ {A : Type 0} (P : Passing) (kind : Kind A) (by : Option What → Option What → List Token → Read A)
+    (each : (v w : Option What) → Honest P kind (by v w)) (opens : What → Bool)
     (all : (v w : Option What) → Opens opens (by v w))
     (two : (w : What) (x y : Option What) (t u : Token) (b c : List Token) →
-    Alike b c (by (Some w) x (t ∷ u ∷ b)) (by (Some w) y (t ∷ u ∷ c))) where
+    Alike b c (by (Some w) x (t ∷ u ∷ b)) (by (Some w) y (t ∷ u ∷ c)))
+    (m : Measured) (heads : Heads kind m)
+    (both : (w : What) (x y : Option What) (t u : Token) (b c : List Token) →
+    Agrees kind (t ∷ u ∷ []) b (by (Some w) x (t ∷ u ∷ b)) (by (Some w) y (t ∷ u ∷ c))) where
   abbrev by_third : List Token → Read A
   by_third ts = by (front (drop 1 ts)) (front (drop 2 ts)) ts
 
   third_alike : (p b c : List Token) → Alike b c (by_third (p ++ b)) (by_third (p ++ c))
   third_alike [] b c = past_alike b c (by_third c) (by_third b)
-      (honest_past kind (by (front (drop 1 b)) (front (drop 2 b))) (each (front (drop 1 b)) (front (drop 2 b))) b)
+      (honest_past P kind (by (front (drop 1 b)) (front (drop 2 b))) (each (front (drop 1 b)) (front (drop 2 b))) b)
   third_alike (t ∷ []) b c = open_alike opens (by (front b) (front (drop 1 b))) (by (front c) (front (drop 1 c)))
       (all (front b) (front (drop 1 b))) (all (front c) (front (drop 1 c))) t b c
   third_alike (t ∷ u ∷ []) b c = two u.what (front b) (front c) t u b c
   third_alike (t ∷ u ∷ v ∷ p) b c = (each (Some u.what) (Some v.what)).alike (t ∷ u ∷ v ∷ p) b c
 
-  pub third_honest : Honest kind (λ ts. by (front (drop 1 ts)) (front (drop 2 ts)) ts)
+  third_agree : (p b c : List Token) → Agrees kind p b (by_third (p ++ b)) (by_third (p ++ c))
+  third_agree [] b c = agrees_empty kind b (by_third b) (by_third c)
+  third_agree (t ∷ []) b c = heads_agree P kind m heads t b (t ∷ b) (t ∷ c) (by_third (t ∷ b)) (by_third (t ∷ c))
+      ((each (front b) (front (drop 1 b))).tells (t ∷ b)) ((each (front c) (front (drop 1 c))).tells (t ∷ c))
+  third_agree (t ∷ u ∷ []) b c = both u.what (front b) (front c) t u b c
+  third_agree (t ∷ u ∷ v ∷ p) b c = (each (Some u.what) (Some v.what)).agree (t ∷ u ∷ v ∷ p) b c
+
+  pub third_honest : Honest P kind (λ ts. by (front (drop 1 ts)) (front (drop 2 ts)) ts)
   third_honest = record {
     example = (each None None).example;
     tells = λ ts. (each (front (drop 1 ts)) (front (drop 2 ts))).tells ts;
     alike = third_alike;
+    agree = third_agree;
   }

@@ -16,8 +16,8 @@ use Rattle.au_read_expressions.specs.Reading.{literal_of}
 use Rattle.au_read_expressions.specs.Reading.{number_at, bytes_of, text_at, dotted_at, fields_at}
 use Rattle.au_read_expressions.specs.Spelling.{fixed}
 use Rattle.au_read_expressions.specs.TypeStops.{is_name}
-use Rattle.au_fault_places.proofs.Told.{Kind, Is, Example, Honest}
-use Rattle.au_fault_places.proofs.Ways.{light, none_honest, value_honest, behind_kind, behind_honest}
+use Rattle.au_fault_places.proofs.Told.{Passing, Kind, Is, Example, Honest}
+use Rattle.au_fault_places.proofs.Ways.{light, light_keeps, none_honest, value_honest, behind_kind, behind_honest}
 use Rattle.au_fault_places.proofs.Ways.{Opens, value_opens}
 use Rattle.au_fault_places.proofs.Lists.{separated_kind, repeated_kind, separated_honest, repeated_honest}
 
@@ -36,15 +36,15 @@ name_example = record {
   is = record { words = ((refl, (refl, tt)), tt); good = refl };
 }
 
-name_means : (w : What) (t : Token) (x : Placed Bytes) → t.what ≡ w → name_of w t.at ≡ Some x → Is name_kind x (t ∷ [])
+pub name_means : (w : What) (t : Token) (x : Placed Bytes) → t.what ≡ w → name_of w t.at ≡ Some x → Is name_kind x (t ∷ [])
 name_means (Name bytes) t x is e =
     let same : ◌≡◌ {A = Placed Bytes} (record { name = bytes; at = t.at }) x = cc in
     subst (λ (y : Placed Bytes). Is name_kind y (t ∷ [])) same (record { words = ((is, (refl, tt)), tt); good = refl })
 name_means other t x is e = absurd cc
 
-pub name_honest : Honest name_kind name_at
-name_honest = value_honest name_kind name_example (λ token. name_of token.what token.at)
-    (λ t x e. name_means t.what t x refl e)
+pub name_honest : (P : Passing) → Honest P name_kind name_at
+name_honest P = value_honest P name_kind name_example (λ token. name_of token.what token.at)
+    (λ t x e. name_means t.what t x refl e) (light_keeps P name_words)
 
 name_there : (w : What) (at : Pos) → is_name w ≡ true → (x : Placed Bytes) × (name_of w at ≡ Some x)
 name_there (Name bytes) at h = (record { name = bytes; at = at }, refl)
@@ -79,9 +79,9 @@ number_example = record {
   is = record { words = ((refl, tt), tt); good = refl };
 }
 
-pub number_honest : Honest number_kind number_at
-number_honest = value_honest number_kind number_example (λ token. literal_of token.what)
-    (λ t x e. number_means t.what t x refl e)
+pub number_honest : (P : Passing) → Honest P number_kind number_at
+number_honest P = value_honest P number_kind number_example (λ token. literal_of token.what)
+    (λ t x e. number_means t.what t x refl e) (light_keeps P literal_words)
 
 -- ---- a text
 
@@ -104,29 +104,30 @@ text_example = record {
   is = record { words = ((refl, tt), tt); good = refl };
 }
 
-pub text_honest : Honest text_kind text_at
-text_honest = value_honest text_kind text_example (λ token. bytes_of token.what) (λ t x e. text_means t.what t x refl e)
+pub text_honest : (P : Passing) → Honest P text_kind text_at
+text_honest P = value_honest P text_kind text_example (λ token. bytes_of token.what)
+    (λ t x e. text_means t.what t x refl e) (light_keeps P text_words)
 
 -- ---- tokens that a tree says nothing of
 
 abbrev pub exactly_kind : List What → Kind (Unit {0})
 exactly_kind whats = behind_kind (light (λ (x : Unit {0}). [])) whats
 
-pub exactly_honest : (whats : List What) → Honest (exactly_kind whats) (exactly whats)
-exactly_honest whats = behind_honest (light (λ (x : Unit {0}). [])) whats nothing_at
-    (none_honest (light (λ (x : Unit {0}). [])) tt (record { words = tt; good = refl }))
+pub exactly_honest : (P : Passing) (whats : List What) → Honest P (exactly_kind whats) (exactly whats)
+exactly_honest P whats = behind_honest P (light (λ (x : Unit {0}). [])) whats nothing_at
+    (none_honest P (light (λ (x : Unit {0}). [])) tt (record { words = tt; good = refl }) tt)
 
 -- ---- names with dots
 
 abbrev pub dotted_kind : Kind (List (Placed Bytes))
 dotted_kind = separated_kind name_kind (fixed (Sign Dot ∷ []))
 
-pub dotted_honest : Honest dotted_kind dotted_at
-dotted_honest = separated_honest name_kind name_at name_honest (Sign Dot)
+pub dotted_honest : (P : Passing) → Honest P dotted_kind dotted_at
+dotted_honest P = separated_honest P name_kind name_at (name_honest P) (Sign Dot)
 
 abbrev pub fields_kind : Kind (List (Placed Bytes))
 fields_kind = repeated_kind (behind_kind name_kind (Sign Dot ∷ []))
 
-pub fields_honest : Honest fields_kind fields_at
-fields_honest = repeated_honest (behind_kind name_kind (Sign Dot ∷ [])) (behind_tokens (Sign Dot ∷ []) name_at)
-    (behind_honest name_kind (Sign Dot ∷ []) name_at name_honest) (is_front (Sign Dot)) (λ x g. omega arith)
+pub fields_honest : (P : Passing) → Honest P fields_kind fields_at
+fields_honest P = repeated_honest P (behind_kind name_kind (Sign Dot ∷ [])) (behind_tokens (Sign Dot ∷ []) name_at)
+    (behind_honest P name_kind (Sign Dot ∷ []) name_at (name_honest P)) (is_front (Sign Dot)) (λ x g. omega arith)

@@ -1,35 +1,55 @@
--- What is told of reading, whatever it ends with. A tree that is read has the words before what is behind it; and
--- the tokens before a fault begin some tree. What is read before some tokens doesn't depend on these.
-use Rattle.std.proofs.Common.{◌≡◌, ℕ, suc, ◌+◌, ◌≤◌, Bool, true, false, List, [], ◌∷◌, ◌++◌, length, map}
+-- What is told of reading, whatever it ends with. A tree that is read has the words before what is behind it, and these
+-- pass no limit; the tokens before a fault begin some tree, and pass none in it; and where a limit is told, some tree
+-- passes it first with the token behind them. What is read before some tokens doesn't depend on these.
+use Rattle.std.proofs.Common.{◌≡◌, ℕ, suc, ◌+◌, ◌≤◌, Bool, true, false, List, [], ◌∷◌, ◌++◌, length, map, None}
 use Rattle.std.proofs.Common.{Ok, Err, refl, sym, ap, ◌∙◌, subst, arith, inl, inr, ◌⊎◌, cond, append_assoc}
 use Rattle.std.proofs.Common.{length-append}
 use Rattle.std.proofs.lemmas.Bool.{cond-true}
+use Rattle.au_base.specs.declared.limits.Limit.{Limit}
+use Rattle.au_base.specs.declared.limits.LimitKind.{LimitKind}
+use Rattle.au_base.specs.declared.places.Pos.{Pos}
 use Rattle.au_base.specs.declared.tokens.Token.{Token}
 use Rattle.au_base.specs.declared.tokens.What.{What}
-use Rattle.au_syntax.specs.Words.{Words, AreWords, begun}
+use Rattle.au_syntax.specs.Words.{Printed, Words, IsWord}
 use Rattle.au_read_expressions.specs.declared.faults.Fault.{Fault}
 use Rattle.au_read_expressions.specs.declared.faults.Fault.TheVariants.{Syntax, Passed}
 use Rattle.au_read_expressions.specs.Reading.{Read, ◌>>=◌, no, place_of, same_what, tokens_at, built_at, read_of}
 use Rattle.au_read_expressions.specs.Spelling.{fixed}
 use Rattle.au_read_expressions.proofs.Steps.{same_is, given}
+use Rattle.au_fault_places.specs.Measures.{Measured, Measures, plain, plains, placed_at, begun}
+use Rattle.au_fault_places.specs.Passing.{Passes, Keep, KeepOver, PassBehind, SameMeasure, Agree, EndsWithArrow}
 
 -- faults and what is read, with their type
 abbrev pub fault_of : {A : Type 0} → Fault → Read A
 fault_of f = Err f
 
--- how many tokens are left where reading stopped
-abbrev pub left_of : Fault → ℕ
-left_of (Syntax left) = left
-left_of (Passed l left) = left
+-- what words pass, where those that tell of no limit pass none
+pub record Passing : Type 1 where
+  pub of : Passes
+  pub plain : (w : Printed) → of (plain w) ≡ None
+  pub placed : (at : Pos) (w : Measured) → of (placed_at at w) ≡ of w
+  -- what is told, with so many tokens left, of the limit that is passed before these
+  pub told : Limit → List Token → ℕ → Type 0
+
+-- the tokens are these words
+abbrev pub AreMeasured : Measures → List Token → Type 0
+AreMeasured [] [] = Unit {0}
+AreMeasured [] (t ∷ ts) = ⊥
+AreMeasured (w ∷ ws) [] = ⊥
+AreMeasured (w ∷ ws) (t ∷ ts) = IsWord w.word t × AreMeasured ws ts
+
+-- tokens that a tree says nothing of
+abbrev pub signs : List What → Measures
+signs whats = plains (fixed whats)
 
 -- What is said of a kind of tree: its words, and whether it has its form.
 pub record Kind (A : Type 0) : Type 0 where
-  pub words : A → Words
+  pub words : A → Measures
   pub good : A → Bool
 
 -- these tokens, all of them, are the words of a tree that has its form
 pub record Is {A : Type 0} (kind : Kind A) (x : A) (ts : List Token) : Type 0 where
-  pub words : AreWords (kind.words x) ts
+  pub words : AreMeasured (kind.words x) ts
   pub good : kind.good x ≡ true
 
 -- some tree
@@ -38,29 +58,52 @@ pub record Example {A : Type 0} (kind : Kind A) : Type 0 where
   pub tokens : List Token
   pub is : Is kind tree tokens
 
--- with some tokens behind, these are the words of some tree
-pub record Fronts {A : Type 0} (kind : Kind A) (ts : List Token) : Type 0 where
+-- with some tokens behind, these are the words of some tree, in which they pass no limit
+pub record Fronts {A : Type 0} (P : Passing) (kind : Kind A) (ts : List Token) : Type 0 where
   pub rest : List Token
   pub tree : A
   pub is : Is kind tree (ts ++ rest)
+  pub keeps : KeepOver P.of ts (kind.words tree)
 
--- a tree that was read, and what is behind it
-pub record Whole {A : Type 0} (kind : Kind A) (x : A) (ts behind : List Token) : Type 0 where
+-- a tree that was read, which passes no limit, and what is behind it
+pub record Whole {A : Type 0} (P : Passing) (kind : Kind A) (x : A) (ts behind : List Token) : Type 0 where
   pub front : List Token
   pub same : ts ≡ front ++ behind
   pub is : Is kind x front
+  pub keeps : Keep P.of (kind.words x)
 
--- the tokens before the last ones, of which there are so many, begin some tree
-pub record Begun {A : Type 0} (kind : Kind A) (ts : List Token) (left : ℕ) : Type 0 where
+-- they pass no limit, or the last of them is `=>`
+abbrev pub Kept : Passing → List Token → Measures → Type 0
+Kept P ts ws = KeepOver P.of ts ws ⊎ EndsWithArrow ts
+
+-- the tokens before the last ones, of which there are so many, begin some tree, and pass no limit in it, unless the last
+-- is `=>`
+pub record Begun {A : Type 0} (P : Passing) (kind : Kind A) (ts : List Token) (left : ℕ) : Type 0 where
   pub front : List Token
   pub back : List Token
   pub same : ts ≡ front ++ back
   pub size : length back ≡ left
-  pub begins : Fronts kind front
+  pub rest : List Token
+  pub tree : A
+  pub is : Is kind tree (front ++ rest)
+  pub keeps : Kept P front (kind.words tree)
 
-abbrev pub Tells : {A : Type 0} → Kind A → List Token → Read A → Type 0
-Tells kind ts (Ok x) = Whole kind x.0 ts x.1
-Tells kind ts (Err f) = Begun kind ts (left_of f)
+-- the tokens through one begin some tree, which passes this limit first with that token
+pub record Stopped {A : Type 0} (P : Passing) (kind : Kind A) (ts : List Token) (l : Limit) (left : ℕ) : Type 0 where
+  pub front : List Token
+  pub last : Token
+  pub back : List Token
+  pub same : ts ≡ front ++ last ∷ back
+  pub told : P.told l back left
+  pub rest : List Token
+  pub tree : A
+  pub is : Is kind tree (front ++ last ∷ rest)
+  pub passes : PassBehind P.of l.kind front (kind.words tree)
+
+abbrev pub Tells : {A : Type 0} → Passing → Kind A → List Token → Read A → Type 0
+Tells P kind ts (Ok x) = Whole P kind x.0 ts x.1
+Tells P kind ts (Err (Syntax left)) = Begun P kind ts left
+Tells P kind ts (Err (Passed l left)) = Stopped P kind ts l left
 
 -- where no limit is passed, no more than so many tokens are left
 abbrev pub Past : {A : Type 0} → ℕ → Read A → Type 0
@@ -82,21 +125,31 @@ Alike b c (Err (Syntax left)) other =
     (left ≤ length b) ⊎ ((k : ℕ) × (left ≡ k + length b) × (other ≡ Err (Syntax (k + length c))))
 Alike b c (Err (Passed l left)) other = Unit {0}
 
--- A reader tells trees of a kind, and never looks back: a fault depends on the tokens through its place alone.
-pub record Honest {A : Type 0} (kind : Kind A) (read : List Token → Read A) : Type 0 where
+-- what is known of the limits with tokens `p` is the same in two trees that are read, where the first one was read beyond
+-- them, with `b` behind
+abbrev pub Agrees : {A : Type 0} → Kind A → List Token → List Token → Read A → Read A → Type 0
+Agrees kind p b (Err f) s = Unit {0}
+Agrees kind p b (Ok x) (Err f) = Unit {0}
+Agrees kind p b (Ok x) (Ok y) = length x.1 ≤ length b → Agree p (kind.words x.0) (kind.words y.0)
+
+-- A reader tells trees of a kind, and never looks back: a fault depends on the tokens through its place alone, and what
+-- is known of the limits with a token on no token behind it.
+pub record Honest {A : Type 0} (P : Passing) (kind : Kind A) (read : List Token → Read A) : Type 0 where
   pub example : Example kind
-  pub tells : (ts : List Token) → Tells kind ts (read ts)
+  pub tells : (ts : List Token) → Tells P kind ts (read ts)
   pub alike : (p b c : List Token) → Alike b c (read (p ++ b)) (read (p ++ c))
+  pub agree : (p b c : List Token) → Agrees kind p b (read (p ++ b)) (read (p ++ c))
 
 -- ---- words and tokens
 
-pub are_join : (a b : Words) (xs ys : List Token) → AreWords a xs → AreWords b ys → AreWords (a ++ b) (xs ++ ys)
+pub are_join : (a b : Measures) (xs ys : List Token) → AreMeasured a xs → AreMeasured b ys →
+    AreMeasured (a ++ b) (xs ++ ys)
 are_join [] b [] ys h k = k
 are_join [] b (x ∷ xs) ys h k = absurd h
 are_join (w ∷ a) b [] ys h k = absurd h
 are_join (w ∷ a) b (x ∷ xs) ys h k = (h.0, are_join a b xs ys h.1 k)
 
-pub are_size : (a : Words) (xs : List Token) → AreWords a xs → length a ≡ length xs
+pub are_size : (a : Measures) (xs : List Token) → AreMeasured a xs → length a ≡ length xs
 are_size [] [] h = refl
 are_size [] (x ∷ xs) h = absurd h
 are_size (w ∷ a) [] h = absurd h
@@ -104,8 +157,8 @@ are_size (w ∷ a) (x ∷ xs) h = let e = are_size a xs h.1 in let r : length (w
     (arith, e) in r
 
 -- words with the place of the first token
-pub begun_are : (ws : Words) (front behind : List Token) → AreWords ws front →
-    AreWords (begun (place_of (front ++ behind)) ws) front
+pub begun_are : (ws : Measures) (front behind : List Token) → AreMeasured ws front →
+    AreMeasured (begun (place_of (front ++ behind)) ws) front
 begun_are [] [] behind h = tt
 begun_are [] (x ∷ xs) behind h = absurd h
 begun_are (w ∷ ws) [] behind h = absurd h
@@ -118,75 +171,221 @@ token_of what = record { what = what; at = record { file = 0; line = 0; column =
 abbrev pub tokens_of : List What → List Token
 tokens_of whats = map token_of whats
 
-pub fixed_are : (whats : List What) → AreWords (fixed whats) (tokens_of whats)
+pub fixed_are : (whats : List What) → AreMeasured (signs whats) (tokens_of whats)
 fixed_are [] = tt
 fixed_are (what ∷ whats) = ((refl, tt), fixed_are whats)
 
+-- ---- words that pass no limit
+
+pub keep_plains : (P : Passing) (ws : Words) → Keep P.of (plains ws)
+keep_plains P [] = tt
+keep_plains P (w ∷ ws) = (P.plain w, keep_plains P ws)
+
+pub keep_join : (p : Passes) (a b : Measures) → Keep p a → Keep p b → Keep p (a ++ b)
+keep_join p [] b h k = k
+keep_join p (w ∷ a) b h k = (h.0, keep_join p a b h.1 k)
+
+pub over_join : (p : Passes) (a b : Measures) (us vs : List Token) → AreMeasured a us → Keep p a → KeepOver p vs b →
+    KeepOver p (us ++ vs) (a ++ b)
+over_join p [] b [] vs are h k = k
+over_join p [] b (u ∷ us) vs are h k = absurd are
+over_join p (w ∷ a) b [] vs are h k = absurd are
+over_join p (w ∷ a) b (u ∷ us) vs are h k = (h.0, over_join p a b us vs are.1 h.1 k)
+
+pub over_more : (p : Passes) (us : List Token) (a b : Measures) → KeepOver p us a → KeepOver p us (a ++ b)
+over_more p [] a b h = tt
+over_more p (u ∷ us) [] b h = absurd h
+over_more p (u ∷ us) (w ∷ a) b h = (h.0, over_more p us a b h.1)
+
+pub over_fewer : (p : Passes) (us vs : List Token) (a : Measures) → KeepOver p (us ++ vs) a → KeepOver p us a
+over_fewer p [] vs a h = tt
+over_fewer p (u ∷ us) vs [] h = absurd h
+over_fewer p (u ∷ us) vs (w ∷ a) h = (h.0, over_fewer p us vs a h.1)
+
+pub keep_over : (p : Passes) (us : List Token) (a : Measures) → AreMeasured a us → Keep p a → KeepOver p us a
+keep_over p [] a are h = tt
+keep_over p (u ∷ us) [] are h = absurd are
+keep_over p (u ∷ us) (w ∷ a) are h = (h.0, keep_over p us a are.1 h.1)
+
+pub pass_join : (p : Passes) (what : LimitKind) (a b : Measures) (us vs : List Token) → AreMeasured a us → Keep p a →
+    PassBehind p what vs b → PassBehind p what (us ++ vs) (a ++ b)
+pass_join p what [] b [] vs are h k = k
+pass_join p what [] b (u ∷ us) vs are h k = absurd are
+pass_join p what (w ∷ a) b [] vs are h k = absurd are
+pass_join p what (w ∷ a) b (u ∷ us) vs are h k = (h.0, pass_join p what a b us vs are.1 h.1 k)
+
+pub pass_more : (p : Passes) (what : LimitKind) (us : List Token) (a b : Measures) → PassBehind p what us a →
+    PassBehind p what us (a ++ b)
+pass_more p what us [] b h = absurd h
+pass_more p what [] (w ∷ a) b h = h
+pass_more p what (u ∷ us) (w ∷ a) b h = (h.0, pass_more p what us a b h.1)
+
+pub arrow_join : (us vs : List Token) → EndsWithArrow vs → EndsWithArrow (us ++ vs)
+arrow_join us vs h = record {
+  before = us ++ h.before;
+  last = h.last;
+  same = ap (λ r. us ++ r) h.same ∙ sym (append_assoc us h.before (h.last ∷ []));
+  arrow = h.arrow;
+}
+
+pub kept_join : (P : Passing) (a b : Measures) (us vs : List Token) → AreMeasured a us → Keep P.of a → Kept P vs b →
+    Kept P (us ++ vs) (a ++ b)
+kept_join P a b us vs are h (inl k) = inl (over_join P.of a b us vs are h k)
+kept_join P a b us vs are h (inr k) = inr (arrow_join us vs k)
+
+pub kept_more : (P : Passing) (us : List Token) (a b : Measures) → Kept P us a → Kept P us (a ++ b)
+kept_more P us a b (inl h) = inl (over_more P.of us a b h)
+kept_more P us a b (inr h) = inr h
+
+pub keep_begun : (P : Passing) (at : Pos) (a : Measures) → Keep P.of a → Keep P.of (begun at a)
+keep_begun P at [] h = h
+keep_begun P at (w ∷ a) h = (P.placed at w ∙ h.0, h.1)
+
+pub over_begun : (P : Passing) (at : Pos) (us : List Token) (a : Measures) → KeepOver P.of us a →
+    KeepOver P.of us (begun at a)
+over_begun P at [] a h = tt
+over_begun P at (u ∷ us) [] h = absurd h
+over_begun P at (u ∷ us) (w ∷ a) h = (P.placed at w ∙ h.0, h.1)
+
+pub kept_begun : (P : Passing) (at : Pos) (us : List Token) (a : Measures) → Kept P us a → Kept P us (begun at a)
+kept_begun P at us a (inl h) = inl (over_begun P at us a h)
+kept_begun P at us a (inr h) = inr h
+
+pub pass_begun : (P : Passing) (at : Pos) (what : LimitKind) (us : List Token) (a : Measures) →
+    PassBehind P.of what us a → PassBehind P.of what us (begun at a)
+pass_begun P at what us [] h = absurd h
+pass_begun P at what [] (w ∷ a) h = P.placed at w ∙ h
+pass_begun P at what (u ∷ us) (w ∷ a) h = (P.placed at w ∙ h.0, h.1)
+
 -- ---- what was read, with others before it, and built of it
 
-module _ {B C : Type 0} (kind : Kind B) (other : Kind C) (front ts rest : List Token) (same : ts ≡ front ++ rest) where
+-- the words of what is built are these, and then those of what it is built of
+pub record Carries {B C : Type 0} (kind : Kind B) (other : Kind C) (pre : Measures) (build : B → C) : Type 0 where
+  pub words : (y : B) → kind.good y ≡ true → other.words (build y) ≡ pre ++ kind.words y
+  pub good : (y : B) → kind.good y ≡ true → other.good (build y) ≡ true
+
+module _ {B C : Type 0} (P : Passing) (kind : Kind B) (other : Kind C) (front ts rest : List Token)
+    (same : ts ≡ front ++ rest)
+    (pre : Measures) (are : AreMeasured pre front) (keep : Keep P.of pre) (build : B → C)
+    (carries : Carries kind other pre build) where
   front_join : (mid behind : List Token) → rest ≡ mid ++ behind → ts ≡ (front ++ mid) ++ behind
   front_join mid behind e = same ∙ ap (λ r. front ++ r) e ∙ sym (append_assoc front mid behind)
 
-  fronts_join : (build : B → C) → ((y : B) (us : List Token) → Is kind y us → Is other (build y) (front ++ us))
-      → (us : List Token) → Fronts kind us → Fronts other (front ++ us)
-  fronts_join build on us h = record {
-    rest = h.rest;
-    tree = build h.tree;
-    is = subst (Is other (build h.tree)) (sym (append_assoc front us h.rest)) (on h.tree (us ++ h.rest) h.is);
+  is_join : (y : B) (us : List Token) → Is kind y us → Is other (build y) (front ++ us)
+  is_join y us h = record {
+    words = subst (λ ws. AreMeasured ws (front ++ us)) (sym (carries.words y h.good))
+        (are_join pre (kind.words y) front us are h.words);
+    good = carries.good y h.good;
   }
 
-  pub built_tells : (build : B → C) → ((y : B) (us : List Token) → Is kind y us → Is other (build y) (front ++ us))
-      → (r : Read B) → Tells kind rest r → Tells other ts (r >>= built_at build)
-  built_tells build on (Ok y) h = record {
-    front = front ++ h.front;
-    same = front_join h.front y.1 h.same;
-    is = on y.0 h.front h.is;
-  }
-  built_tells build on (Err f) h = record {
+  begun_join : (left : ℕ) → Begun P kind rest left → Begun P other ts left
+  begun_join left h = record {
     front = front ++ h.front;
     back = h.back;
     same = front_join h.front h.back h.same;
     size = h.size;
-    begins = fronts_join build on h.front h.begins;
+    rest = h.rest;
+    tree = build h.tree;
+    is = subst (Is other (build h.tree)) (sym (append_assoc front h.front h.rest))
+        (is_join h.tree (h.front ++ h.rest) h.is);
+    keeps = subst (Kept P (front ++ h.front)) (sym (carries.words h.tree h.is.good))
+        (kept_join P pre (kind.words h.tree) front h.front are keep h.keeps);
   }
 
+  stopped_join : (l : Limit) (left : ℕ) → Stopped P kind rest l left → Stopped P other ts l left
+  stopped_join l left h = record {
+    front = front ++ h.front;
+    last = h.last;
+    back = h.back;
+    same = front_join h.front (h.last ∷ h.back) h.same;
+    told = h.told;
+    rest = h.rest;
+    tree = build h.tree;
+    is = subst (Is other (build h.tree)) (sym (append_assoc front h.front (h.last ∷ h.rest)))
+        (is_join h.tree (h.front ++ h.last ∷ h.rest) h.is);
+    passes = subst (PassBehind P.of l.kind (front ++ h.front)) (sym (carries.words h.tree h.is.good))
+        (pass_join P.of l.kind pre (kind.words h.tree) front h.front are keep h.passes);
+  }
+
+  whole_join : (y : B) (behind : List Token) → Whole P kind y rest behind → Whole P other (build y) ts behind
+  whole_join y behind h = record {
+    front = front ++ h.front;
+    same = front_join h.front behind h.same;
+    is = is_join y h.front h.is;
+    keeps = subst (Keep P.of) (sym (carries.words y h.is.good)) (keep_join P.of pre (kind.words y) keep h.keeps);
+  }
+
+  pub built_tells : (r : Read B) → Tells P kind rest r → Tells P other ts (r >>= built_at build)
+  built_tells (Ok y) h = whole_join y.0 y.1 h
+  built_tells (Err (Syntax left)) h = begun_join left h
+  built_tells (Err (Passed l left)) h = stopped_join l left h
+
 -- with others before it
-pub behind_tells : {B : Type 0} (kind other : Kind B) (front ts rest : List Token) → ts ≡ front ++ rest →
-    ((y : B) (us : List Token) → Is kind y us → Is other y (front ++ us)) → (r : Read B) → Tells kind rest r →
-    Tells other ts r
-behind_tells kind other front ts rest same on (Ok y) h = record {
-  front = front ++ h.front;
-  same = front_join kind other front ts rest same h.front y.1 h.same;
-  is = on y.0 h.front h.is;
-}
-behind_tells kind other front ts rest same on (Err f) h = record {
-  front = front ++ h.front;
-  back = h.back;
-  same = front_join kind other front ts rest same h.front h.back h.same;
-  size = h.size;
-  begins = fronts_join kind other front ts rest same (λ y. y) on h.front h.begins;
-}
+pub behind_tells : {B : Type 0} (P : Passing) (kind other : Kind B) (front ts rest : List Token) → ts ≡ front ++ rest →
+    (pre : Measures) → AreMeasured pre front → Keep P.of pre → Carries kind other pre (λ y. y)
+    → (r : Read B) → Tells P kind rest r → Tells P other ts r
+behind_tells P kind other front ts rest same pre are keep carries (Ok y) h =
+    whole_join P kind other front ts rest same pre are keep (λ x. x) carries y.0 y.1 h
+behind_tells P kind other front ts rest same pre are keep carries (Err (Syntax left)) h =
+    begun_join P kind other front ts rest same pre are keep (λ x. x) carries left h
+behind_tells P kind other front ts rest same pre are keep carries (Err (Passed l left)) h =
+    stopped_join P kind other front ts rest same pre are keep (λ x. x) carries l left h
 
 -- ---- two steps
 
-pub bind_tells : {A B : Type 0} (kind : Kind A) (other : Kind B) (ts : List Token) (f : A × List Token → Read B)
-    → ((x : A) (front rest : List Token) → ts ≡ front ++ rest → Is kind x front → Tells other ts (f (x, rest)))
-    → ((x : A) (us : List Token) → Is kind x us → Fronts other us)
-    → (r : Read A) → Tells kind ts r → Tells other ts (r >>= f)
-bind_tells kind other ts f on goes (Ok x) h = on x.0 h.front x.1 h.same h.is
-bind_tells kind other ts f on goes (Err g) h =
-    let more = goes h.begins.tree (h.front ++ h.begins.rest) h.begins.is in
+-- words that begin with these, but for the place of the first
+abbrev pub Extends : Measures → Measures → Type 0
+Extends a c = (more : Measures) × ((c ≡ a ++ more) ⊎ ((at : Pos) × (c ≡ begun at (a ++ more))))
+
+extends_kept : (P : Passing) (us : List Token) (a c : Measures) → Extends a c → Kept P us a → Kept P us c
+extends_kept P us a c (more, inl e) h = subst (Kept P us) (sym e) (kept_more P us a more h)
+extends_kept P us a c (more, inr w) h =
+    subst (Kept P us) (sym w.1) (kept_begun P w.0 us (a ++ more) (kept_more P us a more h))
+
+extends_pass : (P : Passing) (what : LimitKind) (us : List Token) (a c : Measures) → Extends a c →
+    PassBehind P.of what us a → PassBehind P.of what us c
+extends_pass P what us a c (more, inl e) h = subst (PassBehind P.of what us) (sym e) (pass_more P.of what us a more h)
+extends_pass P what us a c (more, inr w) h =
+    subst (PassBehind P.of what us) (sym w.1) (pass_begun P w.0 what us (a ++ more) (pass_more P.of what us a more h))
+
+-- a tree is the beginning of one of another kind
+pub record Grows {A B : Type 0} (kind : Kind A) (other : Kind B) (x : A) (us : List Token) : Type 0 where
+  pub rest : List Token
+  pub tree : B
+  pub is : Is other tree (us ++ rest)
+  pub words : Extends (kind.words x) (other.words tree)
+
+pub bind_tells : {A B : Type 0} (P : Passing) (kind : Kind A) (other : Kind B) (ts : List Token)
+    (f : A × List Token → Read B)
+    → ((x : A) (front rest : List Token) → ts ≡ front ++ rest → Is kind x front → Keep P.of (kind.words x)
+    → Tells P other ts (f (x, rest)))
+    → ((x : A) (us : List Token) → Is kind x us → Grows kind other x us)
+    → (r : Read A) → Tells P kind ts r → Tells P other ts (r >>= f)
+bind_tells P kind other ts f on goes (Ok x) h = on x.0 h.front x.1 h.same h.is h.keeps
+bind_tells P kind other ts f on goes (Err (Syntax left)) h =
+    let more = goes h.tree (h.front ++ h.rest) h.is in
     record {
       front = h.front;
       back = h.back;
       same = h.same;
       size = h.size;
-      begins = record {
-        rest = h.begins.rest ++ more.rest;
-        tree = more.tree;
-        is = subst (Is other more.tree) (append_assoc h.front h.begins.rest more.rest) more.is;
-      };
+      rest = h.rest ++ more.rest;
+      tree = more.tree;
+      is = subst (Is other more.tree) (append_assoc h.front h.rest more.rest) more.is;
+      keeps = extends_kept P h.front (kind.words h.tree) (other.words more.tree) more.words h.keeps;
+    }
+bind_tells P kind other ts f on goes (Err (Passed l left)) h =
+    let more = goes h.tree (h.front ++ h.last ∷ h.rest) h.is in
+    record {
+      front = h.front;
+      last = h.last;
+      back = h.back;
+      same = h.same;
+      told = h.told;
+      rest = h.rest ++ more.rest;
+      tree = more.tree;
+      is = subst (Is other more.tree) (append_assoc h.front (h.last ∷ h.rest) more.rest) more.is;
+      passes = extends_pass P l.kind h.front (kind.words h.tree) (other.words more.tree) more.words h.passes;
     }
 
 pub past_more : {A : Type 0} (m n : ℕ) (r : Read A) → m ≤ n → Past m r → Past n r
@@ -194,12 +393,13 @@ past_more m n (Ok x) h k = omega (arith, h, k)
 past_more m n (Err (Syntax left)) h k = omega (arith, h, k)
 past_more m n (Err (Passed l left)) h k = tt
 
-pub tells_past : {A : Type 0} (kind : Kind A) (ts : List Token) (r : Read A) → Tells kind ts r → Past (length ts) r
-tells_past kind ts (Ok x) h =
+pub tells_past : {A : Type 0} (P : Passing) (kind : Kind A) (ts : List Token) (r : Read A) → Tells P kind ts r →
+    Past (length ts) r
+tells_past P kind ts (Ok x) h =
     let e = ap length h.same ∙ length-append h.front x.1 in omega (arith, e)
-tells_past kind ts (Err (Syntax left)) h =
+tells_past P kind ts (Err (Syntax left)) h =
     let e = ap length h.same ∙ length-append h.front h.back in omega (arith, e, h.size)
-tells_past kind ts (Err (Passed l left)) h = tt
+tells_past P kind ts (Err (Passed l left)) h = tt
 
 pub bind_past : {A B : Type 0} (n : ℕ) (f : A × List Token → Read B) → ((x : A × List Token) → Past (length x.1) (f x))
     → (r : Read A) → Past n r → Past n (r >>= f)
@@ -237,9 +437,9 @@ built_alike b c build r s h =
 
 -- ---- tokens
 
-module _ {B : Type 0} (kind : Kind B) (g : List Token → Read B) where
+module _ {B : Type 0} (P : Passing) (kind : Kind B) (g : List Token → Read B) where
   token_stops : (whats : List What) (all front ts : List Token) → all ≡ front ++ ts
-      → ((us : List Token) → AreWords (fixed whats) us → Fronts kind (front ++ us)) → Begun kind all (length ts)
+      → ((us : List Token) → AreMeasured (signs whats) us → Fronts P kind (front ++ us)) → Begun P kind all (length ts)
   token_stops whats all front ts same goes =
       let more = goes (tokens_of whats) (fixed_are whats) in
       record {
@@ -247,33 +447,32 @@ module _ {B : Type 0} (kind : Kind B) (g : List Token → Read B) where
         back = ts;
         same = same;
         size = refl;
-        begins = record {
-          rest = tokens_of whats ++ more.rest;
-          tree = more.tree;
-          is = subst (Is kind more.tree) (append_assoc front (tokens_of whats) more.rest) more.is;
-        };
+        rest = tokens_of whats ++ more.rest;
+        tree = more.tree;
+        is = subst (Is kind more.tree) (append_assoc front (tokens_of whats) more.rest) more.is;
+        keeps = inl (over_fewer P.of front (tokens_of whats) (kind.words more.tree) more.keeps);
       }
 
   token_by : (w : What) (ws : List What) (all front : List Token) (t : Token) (ts : List Token)
       → all ≡ front ++ t ∷ ts
-      → ((us : List Token) → AreWords (fixed (w ∷ ws)) us → Fronts kind (front ++ us))
-      → (v : Bool) → (v ≡ true → Tells kind all (tokens_at ws ts >>= g))
-      → Tells kind all ((cond v (Ok ts) (no (t ∷ ts)) >>= tokens_at ws) >>= g)
+      → ((us : List Token) → AreMeasured (signs (w ∷ ws)) us → Fronts P kind (front ++ us))
+      → (v : Bool) → (v ≡ true → Tells P kind all (tokens_at ws ts >>= g))
+      → Tells P kind all ((cond v (Ok ts) (no (t ∷ ts)) >>= tokens_at ws) >>= g)
   token_by w ws all front t ts same goes true on = on refl
   token_by w ws all front t ts same goes false on = token_stops (w ∷ ws) all front (t ∷ ts) same goes
 
   -- tokens that are expected, behind others
   pub tokens_tell : (whats : List What) (all front ts : List Token) → all ≡ front ++ ts
-      → ((mid rest : List Token) → ts ≡ mid ++ rest → AreWords (fixed whats) mid → Tells kind all (g rest))
-      → ((us : List Token) → AreWords (fixed whats) us → Fronts kind (front ++ us))
-      → Tells kind all (tokens_at whats ts >>= g)
+      → ((mid rest : List Token) → ts ≡ mid ++ rest → AreMeasured (signs whats) mid → Tells P kind all (g rest))
+      → ((us : List Token) → AreMeasured (signs whats) us → Fronts P kind (front ++ us))
+      → Tells P kind all (tokens_at whats ts >>= g)
   tokens_tell [] all front ts same on goes = on [] ts refl tt
   tokens_tell (w ∷ ws) all front [] same on goes = token_stops (w ∷ ws) all front [] same goes
   tokens_tell (w ∷ ws) all front (t ∷ ts) same on goes =
       token_by w ws all front t ts same goes (same_what t.what w) (λ is.
       tokens_tell ws all (front ++ t ∷ []) ts (same ∙ sym (append_assoc front (t ∷ []) ts))
       (λ mid rest e are. on (t ∷ mid) rest (ap (λ r. t ∷ r) e) ((same_is t.what w is, tt), are))
-      (λ us are. subst (Fronts kind) (sym (append_assoc front (t ∷ []) us))
+      (λ us are. subst (Fronts P kind) (sym (append_assoc front (t ∷ []) us))
       (goes (t ∷ us) ((same_is t.what w is, tt), are))))
 
 module _ {B : Type 0} (g : List Token → Read B) (past : (rest : List Token) → Past (length rest) (g rest)) where
@@ -313,3 +512,178 @@ module _ {B : Type 0} (g : List Token → Read B) (past : (rest : List Token) �
   tokens_alike b c h on (w ∷ ws) [] = past_alike b c (tokens_at (w ∷ ws) c >>= h) (tokens_at (w ∷ ws) b >>= g)
       (tokens_past (w ∷ ws) b)
   tokens_alike b c h on (w ∷ ws) (t ∷ p) = alike_by p b c w ws t h (tokens_alike b c h on ws p) (same_what t.what w)
+
+-- ---- what is known with tokens
+
+pub same_measure : (w : Measured) → SameMeasure w w
+same_measure w = (refl, (refl, (refl, refl)))
+
+pub agree_same : (us vs : List Token) (a : Measures) → AreMeasured a (us ++ vs) → Agree us a a
+agree_same [] vs a h = tt
+agree_same (u ∷ us) vs [] h = absurd h
+agree_same (u ∷ us) vs (w ∷ a) h = (same_measure w, agree_same us vs a h.1)
+
+pub agree_more : (us : List Token) (a b x y : Measures) → Agree us a b → Agree us (a ++ x) (b ++ y)
+agree_more [] a b x y h = tt
+agree_more (u ∷ us) [] b x y h = absurd h
+agree_more (u ∷ us) (w ∷ a) [] x y h = absurd h
+agree_more (u ∷ us) (w ∷ a) (v ∷ b) x y h = (h.0, agree_more us a b x y h.1)
+
+pub agree_join : (a x y : Measures) (us vs : List Token) → AreMeasured a us → Agree vs x y →
+    Agree (us ++ vs) (a ++ x) (a ++ y)
+agree_join [] x y [] vs are h = h
+agree_join [] x y (u ∷ us) vs are h = absurd are
+agree_join (w ∷ a) x y [] vs are h = absurd are
+agree_join (w ∷ a) x y (u ∷ us) vs are h = (same_measure w, agree_join a x y us vs are.1 h)
+
+pub agree_begun : (at be : Pos) (us : List Token) (a b : Measures) → Agree us a b → Agree us (begun at a) (begun be b)
+agree_begun at be [] a b h = tt
+agree_begun at be (u ∷ us) [] b h = absurd h
+agree_begun at be (u ∷ us) (w ∷ a) [] h = absurd h
+agree_begun at be (u ∷ us) (w ∷ a) (v ∷ b) h = h
+
+agree_begun_left : (at : Pos) (us : List Token) (a b : Measures) → Agree us a b → Agree us (begun at a) b
+agree_begun_left at [] a b h = tt
+agree_begun_left at (u ∷ us) [] b h = absurd h
+agree_begun_left at (u ∷ us) (w ∷ a) [] h = absurd h
+agree_begun_left at (u ∷ us) (w ∷ a) (v ∷ b) h = h
+
+agree_begun_right : (at : Pos) (us : List Token) (a b : Measures) → Agree us a b → Agree us a (begun at b)
+agree_begun_right at [] a b h = tt
+agree_begun_right at (u ∷ us) [] b h = absurd h
+agree_begun_right at (u ∷ us) (w ∷ a) [] h = absurd h
+agree_begun_right at (u ∷ us) (w ∷ a) (v ∷ b) h = h
+
+-- with no tokens nothing is known
+pub agrees_empty : {A : Type 0} (kind : Kind A) (b : List Token) (r s : Read A) → Agrees kind [] b r s
+agrees_empty kind b (Err f) s = tt
+agrees_empty kind b (Ok x) (Err f) = tt
+agrees_empty kind b (Ok x) (Ok y) = λ h. tt
+
+pub agrees_fault : {A : Type 0} (kind : Kind A) (p b : List Token) (f : Fault) (r : Read A) →
+    Agrees kind p b r (fault_of f)
+agrees_fault kind p b f (Err g) = tt
+agrees_fault kind p b f (Ok x) = tt
+
+-- what is in front of tokens, and no shorter than these
+pub covered : (p b front behind : List Token) → p ++ b ≡ front ++ behind → length behind ≤ length b →
+    (m : List Token) × (front ≡ p ++ m)
+covered [] b front behind e h = (front, refl)
+covered (t ∷ p) b [] behind e h =
+    let l = ap length e in let n = length-append p b in
+    absurd (let wrong : ⊥ = omega (arith, l, n, h) in wrong)
+covered (t ∷ p) b (u ∷ front) behind e h =
+    let rest : p ++ b ≡ front ++ behind = cc in let first : t ≡ u = cc in
+    let m = covered p b front behind rest h in
+    (m.0, subst (λ v. u ∷ front ≡ v ∷ p ++ m.0) (sym first) (ap (λ ts. u ∷ ts) m.1))
+
+-- what is in front of tokens behind which some of them are left
+pub cut : (p b front q : List Token) → p ++ b ≡ front ++ (q ++ b) → p ≡ front ++ q
+cut p b [] q e = same_front p q b e
+  where
+    same_front : (p q b : List Token) → p ++ b ≡ q ++ b → p ≡ q
+    same_front [] [] b e = refl
+    same_front [] (u ∷ q) b e =
+        let l = ap length e in let n = length-append q b in
+        absurd (let wrong : ⊥ = omega (arith, l, n) in wrong)
+    same_front (t ∷ p) [] b e =
+        let l = ap length e in let n = length-append p b in
+        absurd (let wrong : ⊥ = omega (arith, l, n) in wrong)
+    same_front (t ∷ p) (u ∷ q) b e =
+        let rest : p ++ b ≡ q ++ b = cc in let first : t ≡ u = cc in
+        subst (λ v. t ∷ p ≡ v ∷ q) first (ap (λ ts. t ∷ ts) (same_front p q b rest))
+cut [] b (u ∷ front) q e =
+    let l = ap length e in let n = length-append front (q ++ b) in let m = length-append q b in
+    absurd (let wrong : ⊥ = omega (arith, l, n, m) in wrong)
+cut (t ∷ p) b (u ∷ front) q e =
+    let rest : p ++ b ≡ front ++ (q ++ b) = cc in let first : t ≡ u = cc in
+    subst (λ v. t ∷ p ≡ v ∷ front ++ q) first (ap (λ ts. t ∷ ts) (cut p b front q rest))
+
+-- the same tree
+pub agrees_same : {A : Type 0} (P : Passing) (kind : Kind A) (p b : List Token) (x : A) (behind other : List Token) →
+    Whole P kind x (p ++ b) behind → Agrees kind p b (read_of x behind) (read_of x other)
+agrees_same P kind p b x behind other w =
+    λ h. let m = covered p b w.front behind w.same h in
+    agree_same p m.0 (kind.words x) (subst (AreMeasured (kind.words x)) m.1 w.is.words)
+
+pub agrees_is : {A : Type 0} (kind : Kind A) (p b : List Token) (x : A) (front behind other : List Token) →
+    p ++ b ≡ front ++ behind → AreMeasured (kind.words x) front → Agrees kind p b (read_of x behind) (read_of x other)
+agrees_is kind p b x front behind other same are =
+    λ h. let m = covered p b front behind same h in
+    agree_same p m.0 (kind.words x) (subst (AreMeasured (kind.words x)) m.1 are)
+
+-- ---- trees that begin alike
+
+extends_agree : (us : List Token) (a b c d : Measures) → Agree us a b → Extends a c → Extends b d → Agree us c d
+extends_agree us a b c d h (x, inl e) (y, inl f) =
+    subst (λ ws. Agree us ws d) (sym e) (subst (Agree us (a ++ x)) (sym f) (agree_more us a b x y h))
+extends_agree us a b c d h (x, inr w) (y, inl f) =
+    subst (λ ws. Agree us ws d) (sym w.1) (subst (Agree us (begun w.0 (a ++ x))) (sym f)
+    (agree_begun_left w.0 us (a ++ x) (b ++ y) (agree_more us a b x y h)))
+extends_agree us a b c d h (x, inl e) (y, inr v) =
+    subst (λ ws. Agree us ws d) (sym e) (subst (Agree us (a ++ x)) (sym v.1)
+    (agree_begun_right v.0 us (a ++ x) (b ++ y) (agree_more us a b x y h)))
+extends_agree us a b c d h (x, inr w) (y, inr v) =
+    subst (λ ws. Agree us ws d) (sym w.1) (subst (Agree us (begun w.0 (a ++ x))) (sym v.1)
+    (agree_begun w.0 v.0 us (a ++ x) (b ++ y) (agree_more us a b x y h)))
+
+pub agrees_longer : {B : Type 0} (other : Kind B) (p b : List Token) (u v : Measures) → Agree p u v → (r s : Read B)
+    → ((z : B × List Token) → r ≡ Ok z → Extends u (other.words z.0))
+    → ((z : B × List Token) → s ≡ Ok z → Extends v (other.words z.0)) → Agrees other p b r s
+agrees_longer other p b u v h (Err f) s one two = tt
+agrees_longer other p b u v h (Ok x) (Err f) one two = tt
+agrees_longer other p b u v h (Ok x) (Ok y) one two =
+    λ short. let k = one x refl in let l = two y refl in
+    extends_agree p u v (other.words x.0) (other.words y.0) h k l
+
+pub bind_agrees : {A B : Type 0} (kind : Kind A) (other : Kind B) (p b c : List Token) (f g : A × List Token → Read B)
+    → ((x : A × List Token) (z : B × List Token) → f x ≡ Ok z → Extends (kind.words x.0) (other.words z.0))
+    → ((x : A × List Token) (z : B × List Token) → g x ≡ Ok z → Extends (kind.words x.0) (other.words z.0))
+    → (r s : Read A) → Alike b c r s → Agrees kind p b r s
+    → ((x : A) (q : List Token) → r ≡ Ok (x, q ++ b) → Agrees other p b (f (x, q ++ b)) (g (x, q ++ c)))
+    → Agrees other p b (r >>= f) (s >>= g)
+bind_agrees kind other p b c f g grow more (Err h) s alike agree on = tt
+bind_agrees kind other p b c f g grow more (Ok x) (Err h) alike agree on = agrees_fault other p b h (f x)
+bind_agrees kind other p b c f g grow more (Ok x) (Ok y) alike agree on =
+    elim alike [
+      | inl short ↦ agrees_longer other p b (kind.words x.0) (kind.words y.0) (agree short) (f x) (g y) (grow x) (more y)
+      | inr w ↦
+          subst (λ t. Agrees other p b (f (x.0, t)) (g y)) (sym w.same)
+          (subst (λ v. Agrees other p b (f (x.0, w.between ++ b)) (v >>= g)) (sym w.there)
+          (on x.0 w.between (ap (λ t. read_of x.0 t) w.same)))
+    ]
+
+-- a tree is built of what is read, with others before it
+pub built_agrees : {B C : Type 0} (kind : Kind B) (other : Kind C) (front q p b : List Token) → p ≡ front ++ q
+    → (pre : Measures) → AreMeasured pre front → (build : B → C) → Carries kind other pre build → (r s : Read B)
+    → ((y : B × List Token) → r ≡ Ok y → kind.good y.0 ≡ true)
+    → ((y : B × List Token) → s ≡ Ok y → kind.good y.0 ≡ true)
+    → Agrees kind q b r s → Agrees other p b (r >>= built_at build) (s >>= built_at build)
+built_agrees kind other front q p b same pre are build carries (Err f) s one two agree = tt
+built_agrees kind other front q p b same pre are build carries (Ok x) (Err f) one two agree = tt
+built_agrees kind other front q p b same pre are build carries (Ok x) (Ok y) one two agree =
+    λ short.
+    subst (λ ts. Agree ts (other.words (build x.0)) (other.words (build y.0))) (sym same)
+    (subst (λ ws. Agree (front ++ q) ws (other.words (build y.0))) (sym (carries.words x.0 (one x refl)))
+    (subst (λ ws. Agree (front ++ q) (pre ++ kind.words x.0) ws) (sym (carries.words y.0 (two y refl)))
+    (agree_join pre (kind.words x.0) (kind.words y.0) front q are (agree short))))
+
+-- what is read has its form
+pub tells_good : {A : Type 0} (P : Passing) (kind : Kind A) (ts : List Token) (r : Read A) → Tells P kind ts r →
+    (y : A × List Token) → r ≡ Ok y → kind.good y.0 ≡ true
+tells_good P kind ts r h y e = let w = subst (Tells P kind ts) e h in w.is.good
+
+-- what is read stands in front
+pub tells_cut : {A : Type 0} (P : Passing) (kind : Kind A) (p b : List Token) (r : Read A) → Tells P kind (p ++ b) r →
+    (x : A) (q : List Token) → r ≡ Ok (x, q ++ b) → (front : List Token) × (p ≡ front ++ q) × Is kind x front
+tells_cut P kind p b r h x q e =
+    let w = subst (Tells P kind (p ++ b)) e h in
+    (w.front, cut p b w.front q w.same, w.is)
+
+-- what is built extends what is before it
+pub built_extends : {B C : Type 0} (kind : Kind B) (other : Kind C) (pre : Measures) (build : B → C) →
+    ((y : B) → Extends pre (other.words (build y))) → (r : Read B) (z : C × List Token) → (r >>= built_at build) ≡ Ok z →
+    Extends pre (other.words z.0)
+built_extends kind other pre build on (Ok y) z e =
+    let same : build y.0 ≡ z.0 = cc in subst (λ t. Extends pre (other.words t)) same (on y.0)
+built_extends kind other pre build on (Err f) z e = absurd cc

@@ -1,103 +1,49 @@
 -- What is told of the reader of types.
-use Rattle.std.proofs.Common.{◌≡◌, ℕ, zero, suc, ◌+◌, ◌-◌, ◌≤◌, Bool, true, false, List, [], ◌∷◌, ◌++◌}
-use Rattle.std.proofs.Common.{length, map, take}
-use Rattle.std.proofs.Common.{nat_le, Option, Some, Ok, Err, refl, sym, ap, ◌∙◌, subst, arith, inl, inr, cond}
-use Rattle.std.proofs.Common.{length-append}
-use Rattle.std.specs.Prelude.{codes}
+use Rattle.std.proofs.Common.{◌≡◌, ℕ, zero, suc, ◌+◌, ◌-◌, ◌≤◌, ◌<◌, Bool, true, false, List, [], ◌∷◌, ◌++◌}
+use Rattle.std.proofs.Common.{length, take, nat_le, Option, Some, None, Ok, Err, refl, sym, ap, ◌∙◌, subst, arith}
+use Rattle.std.proofs.Common.{inl, inr, cond, length-append, append_assoc}
+use Rattle.std.proofs.lemmas.Bool.{leb-true, leb-false}
+use Rattle.std.proofs.lemmas.List.{append-nil}
 use Rattle.au_base.specs.declared.limits.Limit.{Limit}
-use Rattle.au_base.specs.declared.tokens.Sign.TheVariants.{LeftBracket, RightBracket, Comma, ReadBorrow, WriteBorrow}
 use Rattle.au_base.specs.declared.tokens.Token.{Token}
+use Rattle.au_base.specs.declared.tokens.Sign.TheVariants.{LeftBracket}
 use Rattle.au_base.specs.declared.tokens.What.{What}
 use Rattle.au_base.specs.declared.tokens.What.TheVariants.{Sign, Name}
-use Rattle.au_syntax.specs.declared.types.Access.{Access}
-use Rattle.au_syntax.specs.declared.types.Access.TheVariants as access
-use Rattle.au_syntax.specs.Names.{Placed}
-use Rattle.au_syntax.specs.Plain.{Bytes}
-use Rattle.au_syntax.specs.Types.{WrittenType, named, no_types}
-use Rattle.au_syntax.specs.Words.{access_sign, begun, mark, name_words, listed_in, type_words, words_of_types}
+use Rattle.au_syntax.specs.Types.{WrittenType}
+use Rattle.au_syntax.specs.Words.{type_words}
+use Rattle.au_read_expressions.specs.declared.faults.Fault.{Fault}
 use Rattle.au_read_expressions.specs.declared.faults.Fault.TheVariants.{Syntax, Passed}
-use Rattle.au_read_expressions.specs.Bounds.{Bounds, depth_limit, nodes_limit}
-use Rattle.au_read_expressions.specs.Reading.{Read, name_at, no, behind_tokens, closed, pair, bracketed}
-use Rattle.au_read_expressions.specs.TypeReading.{begins_type, types_of, named_of, reference_of}
-use Rattle.au_read_expressions.specs.TypeReading.{named_with, reference_with, type_by, type_with, type_within}
-use Rattle.au_read_expressions.specs.TypeReading.{nodes_in, nodes_before, too_many, nodes_here, judged, type_at}
-use Rattle.au_read_expressions.proofs.TypeNodes.{target_words}
-use Rattle.au_fault_places.proofs.Told.{Kind, Example, Begun, Tells, Past, On, Alike, Honest, fault_of}
-use Rattle.au_fault_places.proofs.Told.{tells_past, token_of}
-use Rattle.au_fault_places.proofs.Ways.{no_honest, pair_kind, pair_honest, behind_kind, behind_honest, closed_kind}
-use Rattle.au_fault_places.proofs.Ways.{closed_honest, shaped_honest, built_honest, first_honest, test_honest}
-use Rattle.au_fault_places.proofs.Ways.{passed_honest, or_passed_tells}
-use Rattle.au_fault_places.proofs.Lists.{bracketed_kind, bracketed_honest}
-use Rattle.au_fault_places.proofs.Single.{name_kind, name_honest, a_name}
+use Rattle.au_read_expressions.specs.Bounds.{Bounds, nodes_limit}
+use Rattle.au_read_expressions.specs.Reading.{Read}
+use Rattle.au_read_expressions.specs.TypeReading.{type_within, nodes_in, nodes_before, left_at, too_many, nodes_here}
+use Rattle.au_read_expressions.specs.TypeReading.{judged, type_at}
+use Rattle.au_read_expressions.specs.TypeStops.{Place, begun, next, stops}
+use Rattle.au_read_expressions.proofs.Begins.{begins_shorter}
+use Rattle.au_read_expressions.proofs.TypeNodes.{depth_words}
+use Rattle.au_read_expressions.proofs.TypeForm.{within_reads}
+use Rattle.au_read_expressions.proofs.TypeStops.{reading_stops}
+use Rattle.au_fault_places.specs.Measures.{type_measures, written}
+use Rattle.au_fault_places.specs.Passing.{KeepOver}
+use Rattle.au_fault_places.proofs.Told.{Passing, Kind, Is, Example, Whole, Begun, Stopped, Tells, Past}
+use Rattle.au_fault_places.proofs.Told.{On, Alike, Agrees, Honest, fault_of, tells_past, keep_over, agrees_fault}
+use Rattle.au_fault_places.proofs.SameTypes.{are_words, begins_all, of_type}
+use Rattle.au_fault_places.proofs.Levels.{passing}
+use Rattle.au_fault_places.proofs.TypeDepths.{depths, part_kind, part_example, within_honest}
+use Rattle.au_fault_places.proofs.TypeCounts.{type_typed, no_arrow, counted_keeps, counted_over, counted_deep}
+use Rattle.au_fault_places.proofs.TypeCounts.{counted_many, pass_over, counted_are, counted_agree, nodes_front, nodes_more}
 
 abbrev pub type_kind : Kind WrittenType
-type_kind = record { words = type_words; good = λ t. true }
+type_kind = record { words = written; good = λ t. true }
+
+pub type_is : (t : WrittenType) (us : List Token) → Is part_kind t us → Is type_kind t us
+type_is t us h = record { words = counted_are 0 (type_measures t) us h.words; good = refl }
 
 pub type_example : Example type_kind
 type_example = record {
-  tree = named a_name no_types;
-  tokens = token_of (Name (codes "a")) ∷ [];
-  is = record { words = ((refl, (refl, tt)), tt); good = refl };
+  tree = part_example.tree;
+  tokens = part_example.tokens;
+  is = type_is part_example.tree part_example.tokens part_example.is;
 }
-
-list_words : (ts : List WrittenType) → words_of_types (types_of ts) ≡ map type_words ts
-list_words [] = refl
-list_words (t ∷ ts) = ap (λ ws. type_words t ∷ ws) (list_words ts)
-
-module _ (inner : List Token → Read WrittenType) (honest : Honest type_kind inner) where
-  abbrev args_kind : Kind (List WrittenType)
-  args_kind = bracketed_kind type_kind LeftBracket RightBracket
-
-  named_honest : Honest type_kind (named_with inner)
-  named_honest =
-      shaped_honest (pair_kind name_kind args_kind) type_kind (pair name_at (bracketed LeftBracket RightBracket inner))
-      (pair_honest name_kind args_kind name_at name_honest (bracketed LeftBracket RightBracket inner)
-      (bracketed_honest type_kind inner honest LeftBracket RightBracket)) named_of
-      (record {
-        words = λ x g. ap (λ list. name_words x.0 ++ listed_in LeftBracket RightBracket list) (list_words x.1);
-        good = λ x g. refl;
-      })
-
-  abbrev region_kind : Kind (Placed Bytes)
-  region_kind = closed_kind name_kind (Sign RightBracket ∷ [])
-
-  abbrev region_at : List Token → Read (Placed Bytes)
-  region_at = closed (Sign RightBracket ∷ []) name_at
-
-  abbrev target_kind : Kind (WrittenType × Placed Bytes)
-  target_kind = pair_kind type_kind (behind_kind region_kind (Sign Comma ∷ []))
-
-  abbrev target_at : List Token → Read (WrittenType × Placed Bytes)
-  target_at = pair inner (behind_tokens (Sign Comma ∷ []) region_at)
-
-  target_honest : Honest target_kind target_at
-  target_honest =
-      pair_honest type_kind (behind_kind region_kind (Sign Comma ∷ [])) inner honest
-      (behind_tokens (Sign Comma ∷ []) region_at)
-      (behind_honest region_kind (Sign Comma ∷ []) region_at
-      (closed_honest name_kind (Sign RightBracket ∷ []) name_at name_honest))
-
-  reference_honest : (mode : Access) → Honest type_kind (reference_with inner mode)
-  reference_honest mode =
-      built_honest (behind_kind target_kind (Sign (access_sign mode) ∷ Sign LeftBracket ∷ [])) type_kind
-      (behind_tokens (Sign (access_sign mode) ∷ Sign LeftBracket ∷ []) target_at)
-      (behind_honest target_kind (Sign (access_sign mode) ∷ Sign LeftBracket ∷ []) target_at target_honest)
-      (reference_of mode)
-      (record {
-        words = λ at x. ap (λ ws. begun at (mark (access_sign mode) ++ (mark LeftBracket ++ ws)))
-            (target_words (type_words x.0) x.1);
-        good = λ at x g. refl;
-      })
-
-  type_each : (w : Option What) → Honest type_kind (type_by inner w)
-  type_each (Some (Name bytes)) = named_honest
-  type_each (Some (Sign ReadBorrow)) = reference_honest access.Read
-  type_each (Some (Sign WriteBorrow)) = reference_honest access.Write
-  type_each other = no_honest type_kind type_example
-
-  with_honest : Honest type_kind (type_with inner)
-  unfolding type_with
-  with_honest = first_honest type_kind (type_by inner) type_each
 
 -- ---- the count of nodes
 
@@ -120,32 +66,188 @@ nodes_same p b c left other m e d h =
     let lb = length-append p b in let lc = length-append p c in
     nodes_to p b left m e h ∙ sym (nodes_to p c other m d (omega (arith, e, d, h, lb, lc)))
 
+-- ---- how far a type is read, however deep
+
+stops_within : (place : Option Place) (ts : List Token) → stops place ts ≤ suc (length ts)
+stops_within None ts = omega arith
+stops_within (Some place) [] = omega arith
+stops_within (Some place) (t ∷ ts) = let h = stops_within (next place t.what) ts in omega (arith, h)
+
+-- where all of these tokens are read, so are those in front
+stops_front : (place : Option Place) (us rest back : List Token) → stops place (us ++ rest) ≡ 0 →
+    stops place (us ++ back) ≤ length back
+stops_front None us rest back e = absurd (let wrong : ⊥ = omega (arith, e) in wrong)
+stops_front (Some place) [] rest [] e = omega arith
+stops_front (Some place) [] rest (t ∷ back) e = let h = stops_within (next place t.what) back in omega (arith, h)
+stops_front (Some place) (u ∷ us) rest back e = stops_front (next place u.what) us rest back e
+
+-- where a type may begin that stands in no other one: as behind a bracket, with nothing open
+abbrev stepped : Option Place → What → Option Place
+stepped None what = None
+stepped (Some place) what = next place what
+
+abbrev alone : Option Place → Option Place
+alone None = None
+alone (Some place) = Some (place.0, [])
+
+abbrev start : Option Place
+start = alone (stepped (begun [] (Name [])) (Sign LeftBracket))
+
 module _ (b : Bounds) where
-  pub within_honest : (d : ℕ) → Honest type_kind (type_within b d)
-  unfolding type_within
-  within_honest zero =
-      test_honest type_kind begins_type (λ ts. Err (Passed (depth_limit b) (length ts))) no
-      (passed_honest type_kind type_example (λ ts. depth_limit b)) (no_honest type_kind type_example)
-  within_honest (suc d) = with_honest (type_within b d) (within_honest d)
+  -- a type is read whole
+  whole_left : (t : WrittenType) (ts : List Token) → Is part_kind t ts → left_at (type_within b (length ts) ts) ≡ 0
+  whole_left t ts is =
+      let begins = begins_all (type_words t) ts (subst (λ ws. Rattle.au_syntax.specs.Words.AreWords ws ts) (of_type t)
+      (are_words (type_measures t) ts is.words)) in
+      let size = begins_shorter (type_words t) ts [] begins in
+      let deep = depth_words t in
+      elim ((within_reads b (length ts)).found t ts [] begins refl refl) [
+        | inl e ↦ ap left_at e
+        | inr p ↦ let less = p.3.0 in absurd (let wrong : ⊥ = omega (arith, size, deep, less) in wrong)
+      ]
 
-  judged_tells : (ts : List Token) (r : Read WrittenType) → Tells type_kind ts r → Tells type_kind ts (judged b ts r)
-  judged_tells ts (Ok x) h =
-      let nodes : ℕ = nodes_before (length x.1) ts in
-      or_passed_tells type_kind type_example ts (nodes_limit b nodes) (Ok x) h (nat_le nodes b.nodes)
-  judged_tells ts (Err (Syntax left)) h =
-      let nodes : ℕ = nodes_before left ts in
-      or_passed_tells type_kind type_example ts (nodes_limit b nodes) (Err (Syntax left)) h (nat_le nodes b.nodes)
-  judged_tells ts (Err (Passed l left)) h =
-      let nodes : ℕ = nodes_here b ts in
-      tells_or l left h (nat_le (nodes_before left ts) b.nodes) (too_many b nodes ts (Err (Passed l left)))
-      (or_passed_tells type_kind type_example ts (nodes_limit b nodes) (Err (Passed l left)) h (nat_le nodes b.nodes))
-    where
-      tells_or : (l : Limit) (left : ℕ) → Begun type_kind ts left → (v : Bool) (s : Read WrittenType) → Tells
-          type_kind ts s →
-          Tells type_kind ts (cond v (Err (Passed l left)) s)
-      tells_or l left h true s k = h
-      tells_or l left h false s k = k
+  far_by : (place : Option Place)
+      → ((ts : List Token) → stops place ts ≡ left_at (type_within b (length ts) ts))
+      → (t : WrittenType) (us rest back : List Token) → Is part_kind t (us ++ rest) →
+      left_at (type_within b (length (us ++ back)) (us ++ back)) ≤ length back
+  far_by place same t us rest back is =
+      let h = stops_front place us rest back (same (us ++ rest) ∙ whole_left t (us ++ rest) is) in
+      subst (λ k. k ≤ length back) (same (us ++ back)) h
 
+  -- where a type begins with some tokens, reading goes no less far
+  pub read_far : (t : WrittenType) (us rest back : List Token) → Is part_kind t (us ++ rest) →
+      left_at (type_within b (length (us ++ back)) (us ++ back)) ≤ length back
+  read_far = far_by start (reading_stops b)
+
+-- ---- the count of nodes decides
+
+module _ (b : Bounds) (n : ℕ) where
+  abbrev big : Passing
+  big = passing b n
+
+  many_stop : (ts front back rest : List Token) (t : WrittenType) → ts ≡ front ++ back → Is part_kind t (front ++ rest) →
+      KeepOver (depths b b.depth).of front (type_measures t) → b.nodes < nodes_in front → (count left : ℕ) →
+      Stopped big type_kind ts (nodes_limit b count) left
+  many_stop ts front back rest t same is over many count left =
+      let m = counted_many b n 0 front rest (type_measures t) is.words (type_typed t) over (omega arith)
+      (omega (arith, many)) in
+      record {
+        front = m.front;
+        last = m.last;
+        back = m.back ++ back;
+        same = same ∙ ap (λ us. us ++ back) m.same ∙ append_assoc m.front (m.last ∷ m.back) back;
+        told = inr (inr (inr (count, refl)));
+        rest = m.back ++ rest;
+        tree = t;
+        is = type_is t (m.front ++ m.last ∷ (m.back ++ rest)) (subst (Is part_kind t)
+            (ap (λ us. us ++ rest) m.same ∙ append_assoc m.front (m.last ∷ m.back) rest) is);
+        passes = m.passes;
+      }
+
+  same_nodes : (ts front back : List Token) (left : ℕ) → ts ≡ front ++ back → length back ≡ left →
+      nodes_before left ts ≡ nodes_in front
+  same_nodes ts front back left same size = ap (nodes_before left) same ∙ nodes_front front back left size
+
+  ok_tells : (ts : List Token) (x : WrittenType × List Token) → Whole (depths b b.depth) part_kind x.0 ts x.1 →
+      (v : Bool) → nat_le (nodes_before (length x.1) ts) b.nodes ≡ v → Tells big type_kind ts
+      (cond v (Ok x) (Err (Passed (nodes_limit b (nodes_before (length x.1) ts)) (length ts))))
+  ok_tells ts x h true e =
+      let few = leb-true (nodes_before (length x.1) ts) b.nodes e in
+      let same = same_nodes ts h.front x.1 (length x.1) h.same refl in
+      record {
+        front = h.front;
+        same = h.same;
+        is = type_is x.0 h.front h.is;
+        keeps = counted_keeps b n 0 (type_measures x.0) h.front h.is.words (type_typed x.0) h.keeps
+            (omega (arith, few, same));
+      }
+  ok_tells ts x h false e =
+      let many = leb-false (nodes_before (length x.1) ts) b.nodes e in
+      let same = same_nodes ts h.front x.1 (length x.1) h.same refl in
+      many_stop ts h.front x.1 [] x.0 h.same (subst (Is part_kind x.0) (sym (append-nil h.front)) h.is)
+      (keep_over (depths b b.depth).of h.front (type_measures x.0) h.is.words h.keeps) (omega (arith, many, same))
+      (nodes_before (length x.1) ts) (length ts)
+
+  no_arrows : (ts : List Token) (left : ℕ) (h : Begun (depths b b.depth) part_kind ts left) →
+      KeepOver (depths b b.depth).of h.front (type_measures h.tree)
+  no_arrows ts left h =
+      elim h.keeps [
+        | inl over ↦ over
+        | inr arrow ↦ absurd (no_arrow h.front h.rest (type_measures h.tree) h.is.words (type_typed h.tree) arrow)
+      ]
+
+  syntax_tells : (ts : List Token) (left : ℕ) → Begun (depths b b.depth) part_kind ts left →
+      (v : Bool) → nat_le (nodes_before left ts) b.nodes ≡ v → Tells big type_kind ts
+      (cond v (Err (Syntax left)) (Err (Passed (nodes_limit b (nodes_before left ts)) (length ts))))
+  syntax_tells ts left h true e =
+      let few = leb-true (nodes_before left ts) b.nodes e in
+      let same = same_nodes ts h.front h.back left h.same h.size in
+      record {
+        front = h.front;
+        back = h.back;
+        same = h.same;
+        size = h.size;
+        rest = h.rest;
+        tree = h.tree;
+        is = type_is h.tree (h.front ++ h.rest) h.is;
+        keeps = inl (counted_over b n 0 h.front h.rest (type_measures h.tree) h.is.words (type_typed h.tree)
+            (no_arrows ts left h) (omega (arith, few, same)));
+      }
+  syntax_tells ts left h false e =
+      let many = leb-false (nodes_before left ts) b.nodes e in
+      let same = same_nodes ts h.front h.back left h.same h.size in
+      many_stop ts h.front h.back h.rest h.tree h.same h.is (no_arrows ts left h) (omega (arith, many, same))
+      (nodes_before left ts) (length ts)
+
+  -- where the depth passes its limit, and the nodes theirs before it
+  here_tells : (ts : List Token) (l : Limit) (left : ℕ) (h : Stopped (depths b b.depth) part_kind ts l left) →
+      b.nodes < nodes_in h.front → (v : Bool) → nat_le (nodes_here b ts) b.nodes ≡ v → Tells big type_kind ts
+      (cond v (Err (Passed l left)) (Err (Passed (nodes_limit b (nodes_here b ts)) (length ts))))
+  here_tells ts l left h many true e =
+      let few = leb-true (nodes_here b ts) b.nodes e in
+      let far = subst (λ us. left_at (type_within b (length us) us) ≤ length (h.last ∷ h.back)) (sym h.same)
+      (read_far b h.tree h.front (h.last ∷ h.rest) (h.last ∷ h.back) h.is) in
+      let size = ap length h.same ∙ length-append h.front (h.last ∷ h.back) in
+      let k : ℕ = length ts - left_at (type_within b (length ts) ts) in
+      let more = subst (λ us. nodes_in h.front ≤ nodes_in (take k us)) (sym h.same)
+      (nodes_more k h.front (h.last ∷ h.back) (omega (arith, far, size))) in
+      absurd (let wrong : ⊥ = omega (arith, few, many, more) in wrong)
+  here_tells ts l left h many false e =
+      many_stop ts h.front (h.last ∷ h.back) (h.last ∷ h.rest) h.tree h.same h.is
+      (pass_over (depths b b.depth).of l.kind h.front (type_measures h.tree) h.passes) many (nodes_here b ts) (length ts)
+
+  passed_tells : (ts : List Token) (l : Limit) (left : ℕ) → Stopped (depths b b.depth) part_kind ts l left →
+      (v : Bool) → nat_le (nodes_before left ts) b.nodes ≡ v → Tells big type_kind ts
+      (cond v (Err (Passed l left)) (too_many b (nodes_here b ts) ts (Err (Passed l left))))
+  passed_tells ts l left h true e =
+      let few = leb-true (nodes_before left ts) b.nodes e in
+      let same = same_nodes ts h.front (h.last ∷ h.back) left h.same (sym h.told.1) in
+      record {
+        front = h.front;
+        last = h.last;
+        back = h.back;
+        same = h.same;
+        told = inr (inl h.told.0);
+        rest = h.rest;
+        tree = h.tree;
+        is = type_is h.tree (h.front ++ h.last ∷ h.rest) h.is;
+        passes = counted_deep b n l.kind 0 h.front h.last h.rest (type_measures h.tree) h.is.words (type_typed h.tree)
+            h.passes (omega (arith, few, same));
+      }
+  passed_tells ts l left h false e =
+      let many = leb-false (nodes_before left ts) b.nodes e in
+      let same = same_nodes ts h.front (h.last ∷ h.back) left h.same (sym h.told.1) in
+      here_tells ts l left h (omega (arith, many, same)) (nat_le (nodes_here b ts) b.nodes) refl
+
+  judged_tells : (ts : List Token) (r : Read WrittenType) → Tells (depths b b.depth) part_kind ts r →
+      Tells big type_kind ts (judged b ts r)
+  judged_tells ts (Ok x) h = ok_tells ts x h (nat_le (nodes_before (length x.1) ts) b.nodes) refl
+  judged_tells ts (Err (Syntax left)) h = syntax_tells ts left h (nat_le (nodes_before left ts) b.nodes) refl
+  judged_tells ts (Err (Passed l left)) h = passed_tells ts l left h (nat_le (nodes_before left ts) b.nodes) refl
+
+-- ---- readings beside each other
+
+module _ (b : Bounds) where
   -- where a limit may be passed in place of what is read
   maybe_passed : (c d : List Token) (l : Limit) (left : ℕ) (r s : Read WrittenType) → Past (length c) r → (v : Bool) →
       Alike c d (cond v r (fault_of (Passed l left))) s
@@ -209,13 +311,68 @@ module _ (b : Bounds) where
       passed_by c d l (nodes_limit b (nodes_here b (p ++ c))) left (length (p ++ c)) (judged b (p ++ d) s)
       (nat_le (nodes_before left (p ++ c)) b.nodes) (nat_le (nodes_here b (p ++ c)) b.nodes)
 
-  pub type_honest : Honest type_kind (type_at b)
+  -- ---- what is known of limits
+
+  either_agrees : (p c : List Token) (r s : Read WrittenType) (f g : Fault) (v u : Bool) → Agrees type_kind p c r s →
+      Agrees type_kind p c (cond v r (fault_of f)) (cond u s (fault_of g))
+  either_agrees p c r s f g true true h = h
+  either_agrees p c r s f g true false h = agrees_fault type_kind p c g r
+  either_agrees p c r s f g false u h = tt
+
+  fault_agrees : (p c : List Token) (r : Read WrittenType) (f : Fault) (ts : List Token) →
+      Agrees type_kind p c r (judged b ts (Err f))
+  fault_agrees p c r (Syntax left) ts = one (nat_le (nodes_before left ts) b.nodes)
+    where
+      one : (v : Bool) → Agrees type_kind p c r (cond v (Err (Syntax left))
+          (fault_of (Passed (nodes_limit b (nodes_before left ts)) (length ts))))
+      one true = agrees_fault type_kind p c (Syntax left) r
+      one false = agrees_fault type_kind p c (Passed (nodes_limit b (nodes_before left ts)) (length ts)) r
+  fault_agrees p c r (Passed l left) ts =
+      one (nat_le (nodes_before left ts) b.nodes) (nat_le (nodes_here b ts) b.nodes)
+    where
+      one : (v u : Bool) → Agrees type_kind p c r (cond v (Err (Passed l left))
+          (cond u (Err (Passed l left)) (fault_of (Passed (nodes_limit b (nodes_here b ts)) (length ts)))))
+      one true u = agrees_fault type_kind p c (Passed l left) r
+      one false true = agrees_fault type_kind p c (Passed l left) r
+      one false false = agrees_fault type_kind p c (Passed (nodes_limit b (nodes_here b ts)) (length ts)) r
+
+  from_fault : (p c : List Token) (f : Fault) (ts : List Token) (s : Read WrittenType) →
+      Agrees type_kind p c (judged b ts (Err f)) s
+  from_fault p c (Syntax left) ts s = one (nat_le (nodes_before left ts) b.nodes)
+    where
+      one : (v : Bool) → Agrees type_kind p c (cond v (Err (Syntax left))
+          (fault_of (Passed (nodes_limit b (nodes_before left ts)) (length ts)))) s
+      one true = tt
+      one false = tt
+  from_fault p c (Passed l left) ts s =
+      one (nat_le (nodes_before left ts) b.nodes) (nat_le (nodes_here b ts) b.nodes)
+    where
+      one : (v u : Bool) → Agrees type_kind p c (cond v (Err (Passed l left))
+          (cond u (Err (Passed l left)) (fault_of (Passed (nodes_limit b (nodes_here b ts)) (length ts))))) s
+      one true u = tt
+      one false true = tt
+      one false false = tt
+
+  judged_agrees : (p c ts us : List Token) (r s : Read WrittenType) → Agrees part_kind p c r s →
+      Agrees type_kind p c (judged b ts r) (judged b us s)
+  judged_agrees p c ts us (Err f) s h = from_fault p c f ts (judged b us s)
+  judged_agrees p c ts us (Ok x) (Err f) h = fault_agrees p c (judged b ts (Ok x)) f us
+  judged_agrees p c ts us (Ok x) (Ok y) h =
+      either_agrees p c (Ok x) (Ok y) (Passed (nodes_limit b (nodes_before (length x.1) ts)) (length ts))
+      (Passed (nodes_limit b (nodes_before (length y.1) us)) (length us))
+      (nat_le (nodes_before (length x.1) ts) b.nodes) (nat_le (nodes_before (length y.1) us) b.nodes)
+      (λ short. counted_agree p 0 0 (type_measures x.0) (type_measures y.0) refl (h short))
+
+  pub type_honest : (n : ℕ) → Honest (passing b n) type_kind (type_at b)
   unfolding type_at
-  type_honest =
-      let h = within_honest b.depth in
+  type_honest n =
+      let h = within_honest b b.depth in
       record {
         example = type_example;
-        tells = λ ts. judged_tells ts (type_within b b.depth ts) (h.tells ts);
+        tells = λ ts. judged_tells b n ts (type_within b b.depth ts) (h.tells ts);
         alike = λ p c d. judged_alike p c d (type_within b b.depth (p ++ c)) (type_within b b.depth (p ++ d))
-            (tells_past type_kind (p ++ c) (type_within b b.depth (p ++ c)) (h.tells (p ++ c))) (h.alike p c d);
+            (tells_past (depths b b.depth) part_kind (p ++ c) (type_within b b.depth (p ++ c)) (h.tells (p ++ c)))
+            (h.alike p c d);
+        agree = λ p c d. judged_agrees p c (p ++ c) (p ++ d) (type_within b b.depth (p ++ c))
+            (type_within b b.depth (p ++ d)) (h.agree p c d);
       }

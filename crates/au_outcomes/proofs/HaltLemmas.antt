@@ -6,7 +6,8 @@ use Rattle.au_base.specs.declared.places.Pos.{Pos}
 use Rattle.au_base.specs.declared.tokens.Token.{Token}
 use Rattle.au_base.specs.Places.{place_after}
 use Rattle.au_fault_places.specs.Fronts.{IsFaultPlace}
-use Rattle.au_fault_places.proofs.Places.{place_told, syntax_place}
+use Rattle.au_fault_places.proofs.Places.{limits_kept, passes_before, place_told, syntax_place}
+use Rattle.au_fault_places.proofs.Certain.{none_kept}
 use Rattle.au_lexer.specs.Cut.{Cut, Lexed, tokens, stray, passes, Lexes}
 use Rattle.au_lexer.specs.Passing.{IsWithinLimits}
 use Rattle.au_lexer.proofs.UniqueLemmas.{one_cut, one_outcome}
@@ -21,7 +22,7 @@ use Rattle.au_syntax.specs.Words.{Spells}
 use Rattle.au_outcomes.specs.Halts.{is_missing}
 use Rattle.au_outcomes.specs.Reading.{TokensHalt}
 use Rattle.au_outcomes.specs.Trees.{AreRead, FirstHalts, Halts, HasNoTree, HasTokens, HasTree, IsRead}
-use Rattle.au_outcomes.specs.Trees.{IsPlaceIn, MeetsNoLimit, ReadFile, place_or}
+use Rattle.au_outcomes.specs.Trees.{IsPlaceIn, PassesNone, ReadFile, place_or}
 use Rattle.au_outcomes.specs.declared.outcomes.Outcome.{Outcome}
 use Rattle.au_outcomes.specs.declared.outcomes.Outcome.TheVariants as outcome
 use Rattle.au_outcomes.specs.Refusals.{is_refusal}
@@ -68,10 +69,26 @@ IsFaultOutcome list end arisen = (HasTree list → ⊥)
     × ((f : Fault) × (file_at usual list ≡ Err f) × (arisen ≡ fault_outcome list end f))
 
 -- where reading meets no limit, it stops at the place of the fault
-stops_there : (list : List Token) (place : ℕ) → IsFaultPlace list place → MeetsNoLimit list →
+stops_there : (list : List Token) (place : ℕ) → IsFaultPlace list place → PassesNone list place →
     file_at usual list ≡ Err (reading.Syntax (length list - place))
 stops_there list place p none =
-    elim (place_told usual list place p) [ inl e ↦ e | inr w ↦ absurd (none w.0 w.1 w.2) ]
+    elim (place_told usual list place p) [
+      | inl e ↦ e
+      | inr w ↦ elim none [
+        | inl never ↦ absurd (never w.0.kind (w.3.0, w.3.1))
+        | inr steps ↦ absurd (steps.1 w.0 w.1 w.2)
+      ]
+    ]
+
+-- where reading stops with a fault, no limit is passed before
+none_passed : (list : List Token) (left : ℕ) → file_at usual list ≡ Err (reading.Syntax left) →
+    PassesNone list (length list - left)
+none_passed list left e =
+    elim (limits_kept usual list left e) [
+      | inl kept ↦ inl (λ kind passed. none_kept usual list passed.0 kind passed.1 (length list - left) kept
+          (passes_before usual list passed.0 (length list - left) kind passed.1 (syntax_place usual list left e)))
+      | inr arrow ↦ inr (arrow, λ limit n d. no_limit limit n left (sym d ∙ e))
+    ]
 
 there_again : (list : List Token) (place : ℕ) → IsFaultPlace list place → place ≡ length list - (length list - place)
 there_again list place p = let h = p.within in omega (arith, h)
@@ -82,7 +99,7 @@ pub place_found : (list : List Token) (end at : Pos) (left index : ℕ) → file
 place_found list end at left index e is there = (
   length list - left,
   syntax_place usual list left e,
-  λ limit n d. no_limit limit n left (sym d ∙ e),
+  none_passed list left e,
   there ∙ ap (place_or end list) is,
 )
 
