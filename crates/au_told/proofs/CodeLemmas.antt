@@ -105,10 +105,12 @@ module _ (program : List ModuleParts) (are : AreNamedModules program) where
       (all_each (λ t. IsPlainRow (row_of program t)) row_plain is.reached))
       row
       (among theirs row
-      (Contains-permutation rows theirs row (IsPermutation-sym theirs rows is.are_theirs) (contains rows row m))))
+      (Contains-permutation rows theirs row (IsPermutation-sym theirs rows is.are_theirs)
+      (contains rows row m))))
 
   module _ (noted : List NotedParts) where
-    instance_plain : (all : List Instance) (one : Instance) → IsPlainHome (instance_closed program noted all one)
+    instance_plain : (all : List Instance) (one : Instance) → IsPlainHome
+        (instance_closed program noted all one)
     instance_plain all one = by (body_of program noted one.of)
       where
         by : (o : Option BodyOf) → IsPlainHome (option_map (body_closed program noted all one.given) o)
@@ -163,13 +165,15 @@ module _ (all : List Body) (rows : List Row) where
       (invokes number) one e) tt
   callee_plain home h note (constructor of tag) name one e =
       subst IsPlainAct
-      (same_act (option_map field_names ((closed_view all rows home).fields of tag)) (makes of tag home) one e) h
+      (same_act (option_map field_names ((closed_view all rows home).fields of tag))
+      (makes of tag home) one e) h
   callee_plain home h note (shipped prim) name one e =
       subst IsPlainAct (same_act (Some (shipped_parameters prim)) (ships prim (born prim note.of)) one e) tt
 
   function_plain : (texts : List Bytes) (types : List ClosedType) (numbers : ℕ → ℕ) (bodies : List Body)
       → AllByRecursion (λ (f : Body). IsPlain f.home) bodies
-      → AllByRecursion IsPlainFunction (map (function_code texts types) (functions_by all rows numbers bodies))
+      → AllByRecursion IsPlainFunction
+      (map (function_code texts types) (functions_by all rows numbers bodies))
   function_plain texts types numbers [] h = tt
   function_plain texts types numbers (f ∷ rest) h =
       let g = function_seen all rows (numbers 0) f in (

@@ -1,4 +1,5 @@
--- What is written of a tree names modules only where it makes values, and there the one in whose text it stands.
+-- What is written of a tree names modules only where it makes values, and there the one in whose text it
+-- stands.
 use Rattle.std.proofs.Common.{◌≡◌, ℕ, ◌+◌, Bool, true, false, ◌||◌, List, [], ◌∷◌, ◌++◌, length}
 use Rattle.std.proofs.Common.{Option, None, Some, refl, neg_ℤ, ℤ}
 use Rattle.std.specs.Prelude.{unwrap_or}
@@ -28,11 +29,15 @@ use Rattle.au_meaning.specs.Names.{target_behind}
 use Rattle.au_meaning.specs.Statements.{tag_told}
 use Rattle.au_meaning.specs.Views.{View, Callee, Act, invokes, makes, ships}
 use Rattle.au_meaning.specs.Worlds.{Value}
-use Rattle.au_lowered.specs.Drafts.{Draft, plain, pushes_text, makes_case, ships_birth, Written, ◌>>◌, nothing}
+use Rattle.au_lowered.specs.Drafts.{Draft, plain, pushes_text, makes_case, ships_birth, Written, ◌>>◌}
+use Rattle.au_lowered.specs.Drafts.{nothing}
 use Rattle.au_lowered.specs.Drafts.{does, given, unless, count_unless, when, either, branch, looped}
-use Rattle.au_lowered.specs.Expressions.{acts, borrows, by_labels, by_position, calls, closing, code, code_of_all}
-use Rattle.au_lowered.specs.Expressions.{code_of_named, integer, joins, literal, looked_at, mention, numbers_along}
-use Rattle.au_lowered.specs.Expressions.{opens, operand, part_behind, part_of, ships_call, taken, unless_declared}
+use Rattle.au_lowered.specs.Expressions.{acts, borrows, by_labels, by_position, calls, closing, code}
+use Rattle.au_lowered.specs.Expressions.{code_of_all}
+use Rattle.au_lowered.specs.Expressions.{code_of_named, integer, joins, literal, looked_at, mention}
+use Rattle.au_lowered.specs.Expressions.{numbers_along}
+use Rattle.au_lowered.specs.Expressions.{opens, operand, part_behind, part_of, ships_call, taken}
+use Rattle.au_lowered.specs.Expressions.{unless_declared}
 use Rattle.au_lowered.specs.Expressions.{whole}
 use Rattle.au_lowered.specs.Slots.{after, fields_of_case, kept, with_fields}
 use Rattle.au_lowered.specs.Statements.{ArmsWritten, arm_then, arms_of, block, cases, is_last, lends, mode_in}
@@ -80,14 +85,16 @@ unless_plain false one h place = (h, tt)
 when_plain : (a : Written) → WritesPlain a → WritesPlain (when a)
 when_plain a h place = (tt, h (place + 1))
 
-either_plain : (returns : Bool) (a b : Written) → WritesPlain a → WritesPlain b → WritesPlain (either returns a b)
+either_plain : (returns : Bool) (a b : Written) → WritesPlain a → WritesPlain b → WritesPlain
+    (either returns a b)
 either_plain returns a b h k place =
     let chosen = a (place + 1) in
     let l = place + 1 + length chosen + count_unless returns in
     let jump = unless returns (instr.Jump (l + length (b l))) l in (
       tt,
       all_both IsPlainDraft chosen (jump ++ b l) (h (place + 1))
-          (all_both IsPlainDraft jump (b l) (unless_plain returns (instr.Jump (l + length (b l))) tt l) (k l)),
+          (all_both IsPlainDraft jump (b l) (unless_plain returns (instr.Jump (l + length (b l))) tt l)
+          (k l)),
     )
 
 -- what may not be there
@@ -125,7 +132,8 @@ turns_plain returns slot body h place = (
       (unless_plain returns (instr.ForStep slot (slot + 1) (place + 1)) tt))) (place + 1),
 )
 
-lends_plain : (returns : Bool) (around slot : ℕ) (how : BorrowMode) (variable : Option Variable) (body : Written)
+lends_plain : (returns : Bool) (around slot : ℕ) (how : BorrowMode) (variable : Option Variable)
+    (body : Written)
     → WritesPlain body → WritesPlain (lends returns around slot how variable body)
 lends_plain returns around slot how variable body h =
     both_plain (given variable (λ x. does (instr.Bind x.number slot (mode_in how))))
@@ -220,7 +228,8 @@ module _ {T C : Type 0} (see : View ℕ T C)
       → ((slot : ℕ) (numbers : List ℕ) → WritesPlain (write slot numbers))
       → WritesPlain (part_behind see variable names write)
   behind_plain variable names write h =
-      given_plain variable (λ r. given (numbers_along see (target_behind r.of) names) (write r.number)) (λ r e.
+      given_plain variable (λ r. given (numbers_along see (target_behind r.of) names) (write r.number))
+      (λ r e.
       given_plain (numbers_along see (target_behind r.of) names) (write r.number) (λ numbers f.
       h r.number numbers))
 
@@ -236,7 +245,8 @@ module _ {T C : Type 0} (see : View ℕ T C)
       let last = given (kind_in (see.type_of all)) (λ kind. does (instr.Arith op kind)) in
       both_plain a (b >> last) h
       (both_plain b last k
-      (given_plain (kind_in (see.type_of all)) (λ kind. does (instr.Arith op kind)) (λ kind e place. (tt, tt))))
+      (given_plain (kind_in (see.type_of all)) (λ kind. does (instr.Arith op kind))
+      (λ kind e place. (tt, tt))))
   joins_plain (compares op) all first a b h k =
       let last = given (compared_kind (see.type_of first)) (λ kind. does (instr.Compare op kind)) in
       both_plain a (b >> last) h
@@ -256,14 +266,16 @@ module _ {T C : Type 0} (see : View ℕ T C)
         part_plain (variable_of scope x.name) (names_of (field ∷ fields)) (λ slot numbers.
         does (instr.Look slot numbers)) (λ slot numbers place. (tt, tt))
     code_plain scope (arrow n r fields) =
-        behind_plain (variable_of scope r.name) (names_of fields) (λ slot numbers. does (instr.Read slot numbers))
+        behind_plain (variable_of scope r.name) (names_of fields)
+        (λ slot numbers. does (instr.Read slot numbers))
         (λ slot numbers place. (tt, tt))
     code_plain scope (call n f args c) =
         both_plain (code_of_all see scope args) (calls (see.callee n.note c f.name) by_position)
         (all_code_plain scope args)
         (calls_plain (see.callee n.note c f.name) by_position (good n.note c f.name))
     code_plain scope (named_call n f args c) =
-        both_plain (code_of_named see scope args) (calls (see.callee n.note c f.name) (by_labels (labels args)))
+        both_plain (code_of_named see scope args)
+        (calls (see.callee n.note c f.name) (by_labels (labels args)))
         (named_code_plain scope args)
         (calls_plain (see.callee n.note c f.name) (by_labels (labels args)) (good n.note c f.name))
     code_plain scope (parenthesized n e) = code_plain scope e
@@ -273,7 +285,8 @@ module _ {T C : Type 0} (see : View ℕ T C)
     code_plain scope (borrow n how x) =
         given_plain (variable_of scope x.name) (borrows how) (λ one e. borrows_plain how one)
     code_plain scope (borrow_part n r fields) =
-        behind_plain (variable_of scope r.name) (names_of fields) (λ slot numbers. does (instr.Part slot numbers))
+        behind_plain (variable_of scope r.name) (names_of fields)
+        (λ slot numbers. does (instr.Part slot numbers))
         (λ slot numbers place. (tt, tt))
     code_plain scope (binary n op a b) =
         joins_plain (operation_of op) n.note (note_of a) (code see scope a) (code see scope b)
@@ -282,23 +295,28 @@ module _ {T C : Type 0} (see : View ℕ T C)
         both_plain (code see scope e) (does instr.Not) (code_plain scope e) (does_plain instr.Not tt)
     code_plain scope (typed n e t) = code_plain scope e
     code_plain scope (choice n c a b) =
-        both_plain (code see scope c) (either false (code see scope a) (code see scope b)) (code_plain scope c)
+        both_plain (code see scope c) (either false (code see scope a) (code see scope b))
+        (code_plain scope c)
         (either_plain false (code see scope a) (code see scope b) (code_plain scope a) (code_plain scope b))
 
     all_code_plain : (scope : Scope) (args : Expressions Bytes T C) → WritesPlain (code_of_all see scope args)
     all_code_plain scope no_expressions = λ place. tt
     all_code_plain scope (expressions e rest) =
-        both_plain (code see scope e) (code_of_all see scope rest) (code_plain scope e) (all_code_plain scope rest)
+        both_plain (code see scope e) (code_of_all see scope rest) (code_plain scope e)
+        (all_code_plain scope rest)
 
-    named_code_plain : (scope : Scope) (args : Arguments Bytes T C) → WritesPlain (code_of_named see scope args)
+    named_code_plain : (scope : Scope) (args : Arguments Bytes T C) → WritesPlain
+        (code_of_named see scope args)
     named_code_plain scope no_arguments = λ place. tt
     named_code_plain scope (arguments label e rest) =
         both_plain (code see scope e) (code_of_named see scope rest) (code_plain scope e)
         (named_code_plain scope rest)
 
-  whole_plain : (around : ℕ) (scope : Scope) (e : Expression Bytes T C) → WritesPlain (whole see around scope e)
+  whole_plain : (around : ℕ) (scope : Scope) (e : Expression Bytes T C) → WritesPlain
+      (whole see around scope e)
   whole_plain around scope e =
-      both_plain (code see scope e) (closing (opens e) around) (code_plain scope e) (closing_plain (opens e) around)
+      both_plain (code see scope e) (closing (opens e) around) (code_plain scope e)
+      (closing_plain (opens e) around)
 
   -- a whole expression and an instruction
   then_plain : (around : ℕ) (scope : Scope) (e : Expression Bytes T C) (rest : Written) → WritesPlain rest
@@ -320,11 +338,13 @@ module _ {T C : Type 0} (see : View ℕ T C)
         (λ s numbers place. (tt, tt)))
     statement_plain around slot scope (assign_through at r fields e) =
         then_plain around scope e
-        (part_behind see (variable_of scope r.name) (names_of fields) (λ s numbers. does (instr.Put s numbers)))
+        (part_behind see (variable_of scope r.name) (names_of fields)
+        (λ s numbers. does (instr.Put s numbers)))
         (behind_plain (variable_of scope r.name) (names_of fields) (λ s numbers. does (instr.Put s numbers))
         (λ s numbers place. (tt, tt)))
     statement_plain around slot scope (conditional at tests) =
-        unwrapped_plain (tests_of see around slot scope tests None) (tests_plain around slot scope tests None tt)
+        unwrapped_plain (tests_of see around slot scope tests None)
+        (tests_plain around slot scope tests None tt)
     statement_plain around slot scope (conditional_else at tests other) =
         let last = Some (block see around slot scope other) in
         unwrapped_plain (tests_of see around slot scope tests last)
@@ -341,7 +361,8 @@ module _ {T C : Type 0} (see : View ℕ T C)
         let turn = turns (block_returns body) slot (block see around (slot + 3) inner body) in
         then_plain around scope first
         (does (instr.Store slot) >> whole see around scope last >> does (instr.Store (slot + 1)) >> turn)
-        (both_plain (does (instr.Store slot)) (whole see around scope last >> does (instr.Store (slot + 1)) >> turn)
+        (both_plain (does (instr.Store slot))
+        (whole see around scope last >> does (instr.Store (slot + 1)) >> turn)
         (does_plain (instr.Store slot) tt)
         (then_plain around scope last (does (instr.Store (slot + 1)) >> turn)
         (both_plain (does (instr.Store (slot + 1))) turn (does_plain (instr.Store (slot + 1)) tt)
@@ -367,7 +388,8 @@ module _ {T C : Type 0} (see : View ℕ T C)
     block_plain around slot scope no_statements = λ place. tt
     block_plain around slot scope (statements s rest) =
         both_plain (statement see around slot scope s)
-        (block see around (slot + kept see s) (after see slot s scope) rest) (statement_plain around slot scope s)
+        (block see around (slot + kept see s) (after see slot s scope) rest)
+        (statement_plain around slot scope s)
         (block_plain around (slot + kept see s) (after see slot s scope) rest)
 
     tests_plain : (around slot : ℕ) (scope : Scope) (tests : Branches Bytes T C) (other : Option Written)

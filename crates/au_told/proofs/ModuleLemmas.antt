@@ -1,5 +1,7 @@
--- The modules of shipped files and of files that were read have plain names, and so have their declared types.
-use Rattle.std.proofs.Common.{◌≡◌, ℕ, ◌+◌, Bool, true, false, not, List, [], ◌∷◌, ◌++◌, map, find, cond, Option, None}
+-- The modules of shipped files and of files that were read have plain names, and so have their declared
+-- types.
+use Rattle.std.proofs.Common.{◌≡◌, ℕ, ◌+◌, Bool, true, false, not, List, [], ◌∷◌, ◌++◌, map, find, cond}
+use Rattle.std.proofs.Common.{Option, None}
 use Rattle.std.proofs.Common.{Some, refl, ◌∙◌}
 use Rattle.std.specs.Prelude.{codes, filter, unwrap_or}
 use Rattle.std.specs.List.{AllByRecursion, flat_map, list_all}
@@ -15,14 +17,17 @@ use Rattle.au_types.specs.declared.headings.Head.{Head}
 use Rattle.au_types.specs.declared.types.DeclAt.{DeclAt}
 use Rattle.au_types.specs.Rows.{head_of, same_place}
 use Rattle.au_types.specs.Tables.{firsts}
-use Rattle.au_modules.specs.Programs.{Entry, ModuleParts, is_interface_of, is_shipped, is_user_body, module_of}
+use Rattle.au_modules.specs.Programs.{Entry, ModuleParts, is_interface_of, is_shipped, is_user_body}
+use Rattle.au_modules.specs.Programs.{module_of}
 use Rattle.au_modules.specs.Programs.{modules_of, shipped_module}
 use Rattle.au_names.specs.DeclaredTypes.{DeclaredType, type_declared}
-use Rattle.au_names.specs.HeadsOf.{counting, head_for, heads_of, row_of, row_under, rows_at, rows_from, under_names}
+use Rattle.au_names.specs.HeadsOf.{counting, head_for, heads_of, row_of, row_under, rows_at, rows_from}
+use Rattle.au_names.specs.HeadsOf.{under_names}
 use Rattle.au_names.specs.Owned.{declarations_in, declarations_of}
 use Rattle.au_type_texts.specs.ClosedTexts.{list_text, others_text, text_of}
 use Rattle.au_type_texts.specs.Texts.{head_text, kind_name}
-use Rattle.au_type_texts.specs.Types.{ClosedType, ClosedTypes, unit, truth, integer, text, named, reads, writes}
+use Rattle.au_type_texts.specs.Types.{ClosedType, ClosedTypes, unit, truth, integer, text, named, reads}
+use Rattle.au_type_texts.specs.Types.{writes}
 use Rattle.au_type_texts.specs.Types.{no_types, types}
 use Rattle.au_base.specs.declared.kinds.IntKind.{IntKind}
 use Rattle.au_base.specs.declared.kinds.IntKind.TheVariants as kinds
@@ -46,7 +51,8 @@ AreNamedModules ms = AllByRecursion IsNamedModule ms
 
 both_named : (xs ys : List PlainDeclaration) → list_all is_named xs ≡ true → list_all is_named ys ≡ true
     → list_all is_named (xs ++ ys) ≡ true
-both_named xs ys h k = list_all-append is_named xs ys ∙ and_from (list_all is_named xs) (list_all is_named ys) h k
+both_named xs ys h k = list_all-append is_named xs ys ∙ and_from (list_all is_named xs)
+    (list_all is_named ys) h k
 
 shipped_named : (e : Entry) → IsNamed e.tree → IsNamedModule (shipped_module e)
 shipped_named e h = record {
@@ -110,7 +116,8 @@ numbered_named : (first : ℕ) (ds : List PlainDeclaration) → list_all is_name
 unfolding numbered
 numbered_named first [] h = tt
 numbered_named first (d ∷ ds) h =
-    let both = and_parts (is_named d) (list_all is_named ds) h in (both.0, numbered_named (first + 1) ds both.1)
+    let both = and_parts (is_named d) (list_all is_named ds) h in
+    (both.0, numbered_named (first + 1) ds both.1)
 
 under_named : (d : ℕ × PlainDeclaration) → IsNamedNumber d → (names : List Bytes)
     → AllByRecursion IsNamedPair (map (λ name. (name, d)) names)

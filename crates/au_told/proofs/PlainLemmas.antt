@@ -28,7 +28,8 @@ module _ {A : Type 0} (P : A → Type 0) where
   all_filtered t [] h = tt
   all_filtered t (x ∷ xs) h = by (t x) (all_filtered t xs h.1)
     where
-      by : (b : Bool) → AllByRecursion P (filter t xs) → AllByRecursion P (cond b (x ∷ filter t xs) (filter t xs))
+      by : (b : Bool) → AllByRecursion P (filter t xs) → AllByRecursion P
+          (cond b (x ∷ filter t xs) (filter t xs))
       by true k = (h.0, k)
       by false k = k
 

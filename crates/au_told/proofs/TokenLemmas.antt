@@ -1,6 +1,8 @@
--- The names in the tree of a file that was read are plain: they are tokens, and so the longest words that stand
+-- The names in the tree of a file that was read are plain: they are tokens, and so the longest words that
+-- stand
 -- where they do.
-use Rattle.std.proofs.Common.{◌≡◌, ℕ, true, ◌||◌, ◌==◌, List, [], ◌∷◌, ◌++◌, drop, map, length, refl, sym, subst}
+use Rattle.std.proofs.Common.{◌≡◌, ℕ, true, ◌||◌, ◌==◌, List, [], ◌∷◌, ◌++◌, drop, map, length, refl, sym}
+use Rattle.std.proofs.Common.{subst}
 use Rattle.std.specs.List.{AllByRecursion, flat_map, list_all}
 use Rattle.std.proofs.lemmas.Bool.{and_from, and_parts, or_left}
 use Rattle.au_base.specs.declared.places.Pos.{Pos}
@@ -19,7 +21,8 @@ use Rattle.au_syntax.specs.Modules.{constant_body, function_body, instance_body}
 use Rattle.au_syntax.specs.Names.{Placed}
 use Rattle.au_syntax.specs.Plain.{Bytes, PlainDeclaration, PlainModule}
 use Rattle.au_syntax.specs.Sizes.{joined}
-use Rattle.au_syntax.specs.Words.{AreWords, Printed, Spells, Words, begun, declaration_words, dotted, import_words}
+use Rattle.au_syntax.specs.Words.{AreWords, Printed, Spells, Words, begun, declaration_words, dotted}
+use Rattle.au_syntax.specs.Words.{import_words}
 use Rattle.au_syntax.specs.Words.{mark, name_words, part_words, pragma_words, word, words}
 use Rattle.au_told.specs.Names.{IsPlain, is_plain}
 use Rattle.au_told.proofs.FileLemmas.{IsNamed, is_named}
@@ -46,13 +49,15 @@ bytes_plain : (bytes : List ℕ) → list_all is_name_byte bytes ≡ true → Is
 bytes_plain [] h = refl
 bytes_plain (b ∷ bytes) h =
     let both = and_parts (is_name_byte b) (list_all is_name_byte bytes) h in
-    and_from (is_plain b) (list_all is_plain bytes) (or_left (is_name_byte b) _ both.0) (bytes_plain bytes both.1)
+    and_from (is_plain b) (list_all is_plain bytes) (or_left (is_name_byte b) _ both.0)
+    (bytes_plain bytes both.1)
 
 word_plain : (name : List ℕ) → IsWord name → IsPlain name
 word_plain [] h = absurd h
 word_plain (b ∷ bytes) h =
     and_from (is_plain b) (list_all is_plain bytes)
-    (or_left (is_name_byte b) _ (or_left (is_letter b || is_digit b) (b == 95) (or_left (is_letter b) (is_digit b) h.0)))
+    (or_left (is_name_byte b) _
+    (or_left (is_letter b || is_digit b) (b == 95) (or_left (is_letter b) (is_digit b) h.0)))
     (bytes_plain bytes h.1)
 
 piece_plain : (at : Pos) (piece : Piece) → IsPiece piece → ArePlainTokens (token_at at (what_of piece))
@@ -81,7 +86,8 @@ cut_plain file bytes tokens (pieces, front, is) =
 
 -- ---- words
 
-words_plain : (all : Words) (tokens : List Token) → AreWords all tokens → ArePlainTokens tokens → ArePlainWords all
+words_plain : (all : Words) (tokens : List Token) → AreWords all tokens → ArePlainTokens tokens
+    → ArePlainWords all
 words_plain [] [] are h = tt
 words_plain (one ∷ all) (word ∷ tokens) are h =
     (subst IsPlainWhat are.0.0 h.0, words_plain all tokens are.1 h.1)
@@ -161,10 +167,12 @@ module _ (m : PlainModule) where
       let front = all_front IsOne declared (word KwEnd)
       (all_front IsOne (declared ++ word KwEnd) (part_words m.part)
       (all_front IsOne (declared ++ word KwEnd ++ part_words m.part) (mark Dot) inside)) in
-      let head = all_front IsOne named (word KwIs) (all_front IsOne (named ++ word KwIs) (pragma_words m.pragma)
+      let head = all_front IsOne named (word KwIs)
+      (all_front IsOne (named ++ word KwIs) (pragma_words m.pragma)
       (all_front IsOne opened (flat_map declaration_words m.declarations) front)) in
       record {
-        home = joined_plain m.name (dotted_plain m.name (all_back IsOne (part_words m.part) (dotted m.name) head));
+        home = joined_plain m.name
+            (dotted_plain m.name (all_back IsOne (part_words m.part) (dotted m.name) head));
         types = all_declared m.declarations (all_of_each IsOne declaration_words m.declarations
             (all_back IsOne opened (flat_map declaration_words m.declarations) front));
       }

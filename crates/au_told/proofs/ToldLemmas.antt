@@ -1,5 +1,7 @@
--- What holds of each item of a list, so far and of all of it; numbers among operands; and names that are plain.
-use Rattle.std.proofs.Common.{◌≡◌, ℕ, zero, suc, ◌+◌, ◌<◌, ◌≤◌, ◌^◌, List, [], ◌∷◌, ◌++◌, length, take, get_or}
+-- What holds of each item of a list, so far and of all of it; numbers among operands; and names that are
+-- plain.
+use Rattle.std.proofs.Common.{◌≡◌, ℕ, zero, suc, ◌+◌, ◌<◌, ◌≤◌, ◌^◌, List, [], ◌∷◌, ◌++◌, length, take}
+use Rattle.std.proofs.Common.{get_or}
 use Rattle.std.proofs.Common.{refl, sym, ap, ◌∙◌, subst, arith, true≢false}
 use Rattle.std.specs.List.{AllByRecursion, list_all}
 use Rattle.std.proofs.lemmas.Bool.{and_parts}
@@ -21,7 +23,8 @@ module _ {A : Type 0} (P : A → Type 0) where
   all_index (y ∷ ys) (suc i) x lt h = all_index ys i x (omega (arith, lt)) h.1
 
   -- one more
-  pub all_more : (xs : List A) (i : ℕ) (x : A) → x ≡ get_or xs i x → i < length xs → AllByRecursion P (take i xs)
+  pub all_more : (xs : List A) (i : ℕ) (x : A) → x ≡ get_or xs i x → i < length xs → AllByRecursion P
+      (take i xs)
       → P x → AllByRecursion P (take (i + 1) xs)
   all_more xs i x is lt h k =
       subst (AllByRecursion P) (sym (take_more xs i x lt))

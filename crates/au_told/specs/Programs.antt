@@ -10,8 +10,8 @@ use Rattle.au_outcomes.specs.Accepted.{AreAcceptedAs}
 use Rattle.au_outcomes.specs.Programs.{program_modules}
 use Rattle.au_outcomes.specs.Trees.{ReadFile}
 
--- Accepted files are lowered to this code, from an entry that is named by its module and its own name: it is that
--- of what their program closes to from there.
+-- Accepted files are lowered to this code, from an entry that is named by its module and its own name: it is
+-- that of what their program closes to from there.
 pub record IsAcceptedCode (code : Code) : Type 0 where
   pub files : Files
   pub names : List (List ℕ)

@@ -1,5 +1,5 @@
-//! Codes with plain names are told by their C texts, since their numbers are as wide as their types. The calls do
-//! nothing: they only read what their contracts speak of.
+//! Codes with plain names are told by their C texts, since their numbers are as wide as their types. The
+//! calls do nothing: they only read what their contracts speak of.
 
 ghost use Rattle.std.specs.List.{AllByRecursion};
 ghost use Rattle.au_cprint.specs.Told.{IsShort, IsToldCode, IsToldFunction, IsToldInstruction, IsToldText};

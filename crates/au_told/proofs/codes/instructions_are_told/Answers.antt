@@ -10,7 +10,8 @@ loop-one-preserved c =
     c.loop-one-test.true (c.loop-one.invariant plain)
     (c.instruction_is_told.ensures
     (subst IsPlainInstruction (sym c.one-item.is)
-    (all_index IsPlainInstruction c.args.all.now c.loop-one.one-index c.one-item.result c.loop-one-test.true plain)))
+    (all_index IsPlainInstruction c.args.all.now c.loop-one.one-index c.one-item.result c.loop-one-test.true
+    plain)))
 
 pub returns : goal.returns
 returns c =

@@ -6,4 +6,5 @@ use Rattle.au_told.proofs.codes.instructions_are_told.Given as goal
 
 -- those so far
 abbrev pub invariant-loop-one : goal.invariant-loop-one
-invariant-loop-one l = AllByRecursion IsPlainInstruction l.all → AllByRecursion IsToldInstruction (take l.one-index l.all)
+invariant-loop-one l =
+    AllByRecursion IsPlainInstruction l.all → AllByRecursion IsToldInstruction (take l.one-index l.all)
