@@ -1,4 +1,3 @@
-pub mod MarkLemmas
 pub mod NumberedLemmas
 pub mod RunLemmas
 pub mod WordLemmas

@@ -1,5 +1,5 @@
 -- Texts that begin alike: where what ends them is told from what is in them, they are alike as wholes.
-use Rattle.std.proofs.Common.{◌≡◌, ℕ, zero, suc, ◌+◌, ◌<◌, ◌≤◌, ◌^◌, ◌==◌, Bool, true, false}
+use Rattle.std.proofs.Common.{◌≡◌, ◌≢◌, ◌⊎◌, inl, inr, ℕ, zero, suc, ◌+◌, ◌<◌, ◌≤◌, ◌^◌, Bool, true, false}
 use Rattle.std.proofs.Common.{List, [], ◌∷◌, ◌++◌, length, map, drop, get_or, refl, sym, ap, subst, ◌∙◌, arith}
 use Rattle.std.proofs.Common.{append_assoc, decimal}
 use Rattle.std.specs.List.{flat_map, AllByRecursion}
@@ -9,10 +9,9 @@ use Rattle.std.specs.Fmt.{signed_decimal}
 use Rattle.std.proofs.lemmas.List.{append_cancel_left}
 use Rattle.std.proofs.lemmas.Fmt.{decimal_is_IsNumeral, decimal_is_IsNumeral_wide}
 use Rattle.std.proofs.lemmas.Str.Parse.{digit_from_value}
-use Rattle.au_cprint.specs.Words.{Operand, plain, number, signed, label, name, octals, operand_text, further}
-use Rattle.au_cprint.specs.Words.{joined, applied, in_quotes, marked, octal}
-use Rattle.au_cprint.specs.Told.{IsTold, IsShort, IsWide}
-use Rattle.au_cprint.proofs.MarkLemmas.{IsInside, marks_inside, octals_inside}
+use Rattle.au_cprint.specs.Words.{Operand, plain, number, signed, label, name, operand_text, further, joined}
+use Rattle.au_cprint.specs.Words.{applied, quoted}
+use Rattle.au_cprint.specs.Told.{IsUnquoted, IsTold, IsShort, IsWide}
 
 -- ---- first bytes
 
@@ -51,27 +50,17 @@ pub words_alike : (x y u v : List ℕ) (c d : ℕ) → AllByRecursion IsInner x 
 words_alike = runs_alike IsInner IsEnd (λ b p e. omega (arith, p, e))
 
 -- two quoted texts, without their first quotation marks
-pub quotes_alike : (m : Bool) (x y u v : List ℕ) → IsInside m x → IsInside m y → x ++ 34 ∷ u ≡ y ++ 34 ∷ v
+pub quotes_alike : (x y u v : List ℕ) → IsUnquoted x → IsUnquoted y → x ++ 34 ∷ u ≡ y ++ 34 ∷ v
     → (x ≡ y) × (34 ∷ u ≡ 34 ∷ v)
-quotes_alike true [] y u v p q h = absurd p
-quotes_alike true (a ∷ x) [] u v p q h = absurd q
-quotes_alike true (a ∷ x) (b ∷ y) u v p q h =
-    let inner = quotes_alike false x y u v p q (same_rest h) in
-    (same_both (same_first h) inner.0, inner.1)
-quotes_alike false [] [] u v p q h = (refl, h)
-quotes_alike false [] (b ∷ y) u v p q h = absurd (q.0 (sym (same_first h)))
-quotes_alike false (a ∷ x) [] u v p q h = absurd (p.0 (same_first h))
-quotes_alike false (a ∷ x) (b ∷ y) u v p q h =
-    let e = same_first h in
-    let inner = quotes_alike (a == 92) x y u v p.1 (subst (λ c. IsInside (c == 92) y) (sym e) q.1) (same_rest h) in
-    (same_both e inner.0, inner.1)
+quotes_alike x y u v p q h =
+    runs_alike (λ b. b ≢ 34) (λ b. b ≡ 34) (λ b p e. p e) x y u v 34 34 p q refl refl h
 
 -- ---- operands
 
 -- what an operand is as it is written: a run that isn't empty, or a quoted text
 pub data IsOperand (text : List ℕ) : Type 0 where
   run : (b : ℕ) (rest : List ℕ) → text ≡ b ∷ rest → IsInner b → AllByRecursion IsInner rest → IsOperand text
-  within : (inner : List ℕ) → text ≡ in_quotes inner → IsInside false inner → IsOperand text
+  within : (inner : List ℕ) → text ≡ quoted inner → IsUnquoted inner → IsOperand text
 
 -- the bytes of a numeral
 digits_inner : (ds : List ℕ) → AllDigits 10 ds → AllByRecursion IsInner ds
@@ -108,7 +97,6 @@ IsWordOperand (number n) = Unit {0}
 IsWordOperand (signed z) = Unit {0}
 IsWordOperand (label n) = Unit {0}
 IsWordOperand (name text) = Unit {0}
-IsWordOperand (octals text) = Unit {0}
 
 -- an operand as it is written is an operand
 pub told_operand : (o : Operand) → IsTold o → IsWordOperand o → IsOperand (operand_text o)
@@ -116,8 +104,7 @@ told_operand (plain text) t w = w
 told_operand (number n) t w = number_operand n (omega (arith, t))
 told_operand (signed z) t w = wide_operand z t
 told_operand (label n) t w = label_operand n t
-told_operand (name text) t w = within (flat_map marked text) refl (marks_inside text)
-told_operand (octals text) t w = within (flat_map octal text) refl (octals_inside text)
+told_operand (name text) t w = within text refl t
 
 -- what stands behind an operand begins with a comma or a parenthesis
 pub behind : (os : List Operand) (u : List ℕ) → (c : ℕ) × (t : List ℕ) × (flat_map further os ++ 41 ∷ u ≡ c ∷ t)
@@ -144,9 +131,9 @@ operands_alike x y (within p is ip) (run b q js jb jq) c d t s e f h =
 operands_alike x y (within p is ip) (within q js jq) c d t s e f h =
     let whole : 34 ∷ ((p ++ 34 ∷ []) ++ c ∷ t) ≡ 34 ∷ ((q ++ 34 ∷ []) ++ d ∷ s) =
     ap (λ l. l ++ c ∷ t) (sym is) ∙ h ∙ ap (λ l. l ++ d ∷ s) js in
-    let inner = quotes_alike false p q (c ∷ t) (d ∷ s) ip jq
+    let inner = quotes_alike p q (c ∷ t) (d ∷ s) ip jq
     (sym (append_assoc p (34 ∷ []) (c ∷ t)) ∙ same_rest whole ∙ append_assoc q (34 ∷ []) (d ∷ s)) in
-    (is ∙ ap in_quotes inner.0 ∙ sym js, same_rest inner.1)
+    (is ∙ ap quoted inner.0 ∙ sym js, same_rest inner.1)
 
 -- the same where the one list is empty: an operand begins with no parenthesis
 no_operand : (x t u : List ℕ) → IsOperand x → 41 ∷ u ≡ x ++ t → ⊥

@@ -26,10 +26,9 @@ use Rattle.au_low.specs.declared.instructions.Instr.{Instr}
 use Rattle.au_low.specs.declared.instructions.Instr.TheVariants as instr
 use Rattle.au_cprint.specs.Instructions.{numbers, labels, application, call_operands}
 use Rattle.au_cprint.specs.Told.{IsTold, IsShort, IsWide, IsToldInstruction}
-use Rattle.au_cprint.specs.Words.{Operand, plain, number, signed, label, name, operand_text, flag}
+use Rattle.au_cprint.specs.Words.{Operand, plain, number, signed, label, name, operand_text, quoted, flag}
 use Rattle.au_cprint.specs.Words.{kind_word, compared_word, exact_word, wrapped_word, order_word, mode_word}
 use Rattle.au_cprint.specs.Words.{call_word, call_home}
-use Rattle.au_cprint.proofs.MarkLemmas.{name_in, name_is}
 use Rattle.au_cprint.proofs.RunLemmas.{texts_of}
 
 -- ---- numbers and names
@@ -80,6 +79,25 @@ label_in text = value_in (drop 1 text)
 label_is : (n : ℕ) → IsShort n → label_in (76 ∷ decimal n) ≡ n
 unfolding label_in
 label_is n h = value_is n h
+
+-- a text without its last byte
+front : List ℕ → List ℕ
+front [] = []
+front (x ∷ []) = []
+front (x ∷ y ∷ rest) = x ∷ front (y ∷ rest)
+
+front_is : (text : List ℕ) (last : ℕ) → front (text ++ last ∷ []) ≡ text
+unfolding front
+front_is [] last = refl
+front_is (x ∷ []) last = refl
+front_is (x ∷ y ∷ rest) last = ap (λ l. x ∷ l) (front_is (y ∷ rest) last)
+
+pub name_in : List ℕ → List ℕ
+name_in text = front (drop 1 text)
+
+pub name_is : (text : List ℕ) → name_in (quoted text) ≡ text
+unfolding name_in
+name_is text = front_is text 34
 
 -- lists of numbers and of labels
 values_in : List (List ℕ) → List ℕ

@@ -12,17 +12,17 @@ use Rattle.au_low.specs.declared.code.LowType.{LowType}
 use Rattle.au_low.specs.declared.instructions.Instr.{Instr}
 use Rattle.au_low.specs.declared.instructions.Instr.TheVariants as instr
 use Rattle.au_shipped.specs.declared.prims.ShippedCall.{ShippedCall}
-use Rattle.au_cprint.specs.Words.{Operand, plain, number, name, octals, label_text, octal, marked, flag, applied}
+use Rattle.au_cprint.specs.Words.{Operand, plain, number, name, label_text, quoted, flag, applied}
 use Rattle.au_cprint.specs.Instructions.{application, instruction_text, instruction_line}
-use Rattle.au_cprint.specs.Programs.{numbered, line, text_line, type_line, declare_line, function_text}
+use Rattle.au_cprint.specs.Programs.{numbered, line, octal, text_line, type_line, declare_line, function_text}
 use Rattle.au_cprint.specs.Programs.{entry_line, lines_of, c_text, prelude}
-use Rattle.au_cprint.specs.Told.{IsTold, IsShort, IsToldInstruction, IsToldText}
+use Rattle.au_cprint.specs.Told.{IsUnquoted, IsTold, IsShort, IsToldInstruction, IsToldText, IsToldType}
 use Rattle.au_cprint.specs.Told.{IsToldFunction, IsToldCode}
 use Rattle.au_cprint.proofs.RunLemmas.{same_first, same_rest, same_both, IsInner, IsOperand, run, within}
 use Rattle.au_cprint.proofs.RunLemmas.{AreOperands, texts_of, number_operand, told_operand, IsWordOperand}
 use Rattle.au_cprint.proofs.RunLemmas.{applied_alike, line_alike}
-use Rattle.au_cprint.proofs.MarkLemmas.{marks_inside, octals_inside, inner_in, inner_is, name_in, name_is}
-use Rattle.au_cprint.proofs.TellingLemmas.{same_instruction, value_is, value_in, flag_is, flag_in, three}
+use Rattle.au_cprint.proofs.TellingLemmas.{same_instruction, value_is, value_in, flag_is, flag_in, name_is}
+use Rattle.au_cprint.proofs.TellingLemmas.{name_in, three}
 use Rattle.au_cprint.proofs.WordLemmas.{word_inner, are_words}
 
 -- ---- lists of lines
@@ -76,6 +76,22 @@ second_text ts = get_or ts 1 []
 octal_parts : (b : ℕ) → b ≡ 64 * (b / 64) + (8 * (b / 8 % 8) + b % 8)
 octal_parts b = omega arith
 
+octals_unquoted : (bytes : List ℕ) → IsUnquoted (flat_map octal bytes)
+octals_unquoted [] = tt
+octals_unquoted (b ∷ bytes) = (
+  λ e. omega (arith, e),
+  (
+    λ e. omega (arith, e),
+    (
+      λ e. omega (arith, e),
+      (
+        λ e. omega (arith, e),
+        octals_unquoted bytes,
+      ),
+    ),
+  ),
+)
+
 same_octal : (a b : ℕ) → a / 64 ≡ b / 64 → a / 8 % 8 ≡ b / 8 % 8 → a % 8 ≡ b % 8 → a ≡ b
 same_octal a b e f g =
     octal_parts a
@@ -97,19 +113,18 @@ same_octals (x ∷ xs) (y ∷ ys) h =
     (same_octals xs ys (same_rest three))
 
 text_operands : (bytes : List ℕ) → IsToldText bytes
-    → AreOperands (number (length bytes) ∷ octals bytes ∷ [])
+    → AreOperands (number (length bytes) ∷ name (flat_map octal bytes) ∷ [])
 text_operands bytes h =
-    (number_operand (length bytes) h, (within (flat_map octal bytes) refl (octals_inside bytes), tt))
+    (number_operand (length bytes) h, (within (flat_map octal bytes) refl (octals_unquoted bytes), tt))
 
 texts_alike : (n : ℕ) (x y u v : List ℕ) → IsToldText x → IsToldText y
     → text_line n x ++ u ≡ text_line n y ++ v → (x ≡ y) × (u ≡ v)
 unfolding second_text
 texts_alike n x y u v a b h =
-    let both = lines_alike (codes "TEXT") (number n) (number (length x) ∷ octals x ∷ [])
-    (number (length y) ∷ octals y ∷ []) u v (text_operands x a) (text_operands y b) h in (
+    let both = lines_alike (codes "TEXT") (number n) (number (length x) ∷ name (flat_map octal x) ∷ [])
+    (number (length y) ∷ name (flat_map octal y) ∷ []) u v (text_operands x a) (text_operands y b) h in (
       same_octals x y
-          (sym (inner_is (flat_map octal x)) ∙ ap (λ ts. inner_in (second_text ts)) both.0
-          ∙ inner_is (flat_map octal y)),
+          (sym (name_is (flat_map octal x)) ∙ ap (λ ts. name_in (second_text ts)) both.0 ∙ name_is (flat_map octal y)),
       both.1,
     )
 
@@ -119,14 +134,9 @@ flag_operand : (b : Bool) → IsOperand (flag b)
 flag_operand true = run 49 [] refl (omega arith) tt
 flag_operand false = run 48 [] refl (omega arith) tt
 
-type_operands : (t : LowType) → AreOperands (name t.text ∷ name t.«module» ∷ plain (flag t.linear) ∷ [])
-type_operands t = (
-  within (flat_map marked t.text) refl (marks_inside t.text),
-  (
-    within (flat_map marked t.«module») refl (marks_inside t.«module»),
-    (flag_operand t.linear, tt),
-  ),
-)
+type_operands : (t : LowType) → IsToldType t
+    → AreOperands (name t.text ∷ name t.«module» ∷ plain (flag t.linear) ∷ [])
+type_operands t h = (within t.text refl h.0, (within t.«module» refl h.1, (flag_operand t.linear, tt)))
 
 abbrev type_of : List ℕ → List ℕ → Bool → LowType
 type_of text home linear = record { text = text; «module» = home; linear = linear }
@@ -134,20 +144,12 @@ type_of text home linear = record { text = text; «module» = home; linear = lin
 same_type : (x y : LowType) → x.text ≡ y.text → x.«module» ≡ y.«module» → x.linear ≡ y.linear → x ≡ y
 same_type x y e f g = three type_of e f g
 
--- nothing is asked of a type
-abbrev IsAnyType : LowType → Type 0
-IsAnyType t = Unit {0}
-
-any_types : (ts : List LowType) → AllByRecursion IsAnyType ts
-any_types [] = tt
-any_types (t ∷ ts) = (tt, any_types ts)
-
-types_alike : (n : ℕ) (x y : LowType) (u v : List ℕ) → IsAnyType x → IsAnyType y
+types_alike : (n : ℕ) (x y : LowType) (u v : List ℕ) → IsToldType x → IsToldType y
     → type_line n x ++ u ≡ type_line n y ++ v → (x ≡ y) × (u ≡ v)
 unfolding first_text second_text
 types_alike n x y u v a b h =
     let both = lines_alike (codes "TYPE") (number n) (name x.text ∷ name x.«module» ∷ plain (flag x.linear) ∷ [])
-    (name y.text ∷ name y.«module» ∷ plain (flag y.linear) ∷ []) u v (type_operands x) (type_operands y) h in (
+    (name y.text ∷ name y.«module» ∷ plain (flag y.linear) ∷ []) u v (type_operands x a) (type_operands y b) h in (
       same_type x y
           (sym (name_is x.text) ∙ ap (λ ts. name_in (first_text ts)) both.0 ∙ name_is y.text)
           (sym (name_is x.«module») ∙ ap (λ ts. name_in (second_text ts)) both.0 ∙ name_is y.«module»)
@@ -330,8 +332,8 @@ lines_tell : (x y : Code) → IsToldCode x → IsToldCode y → lines_of x ≡ l
 lines_tell x y a b h =
     let texts = numbered_alike text_line IsToldText (two_are 84 69) text_starts texts_alike 0 x.texts y.texts
     (after_texts x) (after_texts y) a.texts b.texts (no_text x) (no_text y) h in
-    let types = numbered_alike type_line IsAnyType (two_are 84 89) type_starts types_alike 0 x.types y.types
-    (after_types x) (after_types y) (any_types x.types) (any_types y.types) (no_type x) (no_type y) texts.1 in
+    let types = numbered_alike type_line IsToldType (two_are 84 89) type_starts types_alike 0 x.types y.types
+    (after_types x) (after_types y) a.types b.types (no_type x) (no_type y) texts.1 in
     let declared = declarations_alike 0 x.functions y.functions (after_declarations x) (after_declarations y)
     (no_declaration x) (no_declaration y) types.1 in
     let functions = numbered_alike function_text IsToldFunction (two_are 70 85) function_starts functions_alike 0

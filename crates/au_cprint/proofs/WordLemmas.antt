@@ -17,7 +17,7 @@ use Rattle.au_low.specs.declared.instructions.Instr.{Instr}
 use Rattle.au_low.specs.declared.instructions.Instr.TheVariants as instr
 use Rattle.au_cprint.specs.Instructions.{numbers, labels, application, call_operands}
 use Rattle.au_cprint.specs.Told.{IsTold, IsShort, IsWide, IsToldInstruction}
-use Rattle.au_cprint.specs.Words.{Operand, plain, number, signed, label, name, operand_text, flag}
+use Rattle.au_cprint.specs.Words.{Operand, plain, number, signed, label, name, operand_text, quoted, flag}
 use Rattle.au_cprint.specs.Words.{kind_word, compared_word, exact_word, wrapped_word, order_word, mode_word}
 use Rattle.au_cprint.specs.Words.{call_word, call_home}
 use Rattle.au_cprint.proofs.RunLemmas.{texts_of}

@@ -1,12 +1,13 @@
 -- The C text of lowered code.
-use Rattle.std.specs.Prelude.{ℕ, ◌+◌, Bool, List, [], ◌∷◌, ◌++◌, length, codes}
+use Rattle.std.specs.Prelude.{ℕ, ◌+◌, Bool, ◌/◌, ◌%◌, List, [], ◌∷◌, ◌++◌, length, codes}
+use Rattle.std.specs.List.{flat_map}
 use Rattle.au_low.specs.declared.code.Code.{Code}
 use Rattle.au_low.specs.declared.code.Function.{Function}
 use Rattle.au_low.specs.declared.code.LowType.{LowType}
 use Rattle.au_cprint.specs.declared.counting.TheConstants.{COUNTING}
 use Rattle.au_cprint.specs.declared.macros.TheConstants.{MACROS}
 use Rattle.au_cprint.specs.declared.runtime.TheConstants.{RUNTIME}
-use Rattle.au_cprint.specs.Words.{Operand, plain, number, name, octals, flag, applied}
+use Rattle.au_cprint.specs.Words.{Operand, plain, number, name, flag, applied}
 use Rattle.au_cprint.specs.Instructions.{instruction_line}
 
 -- what is written for each of a list's items and its number, which counts from n
@@ -18,10 +19,14 @@ numbered text n (one ∷ rest) = text n one ++ numbered text (n + 1) rest
 abbrev pub line : List ℕ → List Operand → List ℕ
 line word operands = applied word operands ++ 10 ∷ []
 
+-- a byte of a text: a backslash and three octal digits
+abbrev pub octal : ℕ → List ℕ
+octal byte = 92 ∷ (48 + byte / 64) ∷ (48 + byte / 8 % 8) ∷ (48 + byte % 8) ∷ []
+
 -- a text: its number, its length and its bytes
 abbrev pub text_line : ℕ → List ℕ → List ℕ
 text_line n bytes =
-    line (codes "TEXT") (number n ∷ number (length bytes) ∷ octals bytes ∷ [])
+    line (codes "TEXT") (number n ∷ number (length bytes) ∷ name (flat_map octal bytes) ∷ [])
 
 -- a type: its number, its text, the module that declares it, and whether it is linear
 abbrev pub type_line : ℕ → LowType → List ℕ

@@ -1,6 +1,6 @@
 -- The words of C text: what stands for kinds, operations and shipped calls, and a word with its operands.
-use Rattle.std.specs.Prelude.{ℕ, ◌+◌, ◌/◌, ◌%◌, ◌==◌, ◌||◌, if◌then◌else◌, ℤ, Bool, true, false, List, [], ◌∷◌, ◌++◌}
-use Rattle.std.specs.Prelude.{Option, None, Some, codes, decimal}
+use Rattle.std.specs.Prelude.{ℕ, ℤ, Bool, true, false, List, [], ◌∷◌, ◌++◌, Option, None, Some, codes}
+use Rattle.std.specs.Prelude.{decimal}
 use Rattle.std.specs.Fmt.{signed_decimal}
 use Rattle.std.specs.List.{flat_map}
 use Rattle.au_base.specs.declared.kinds.IntKind.{IntKind}
@@ -18,34 +18,21 @@ use Rattle.au_low.specs.declared.instructions.Mode.TheVariants as modes
 
 -- ---- operands
 
--- an operand: a word, a number, one that may be below 0, a label, a name, or the bytes of a text
+-- an operand: a word, a number, one that may be below 0, a label, or what stands between quotation marks
 pub data Operand : Type 0 where
   plain : List ℕ → Operand
   number : ℕ → Operand
   signed : ℤ → Operand
   label : ℕ → Operand
   name : List ℕ → Operand
-  octals : List ℕ → Operand
 
 -- a label
 abbrev pub label_text : ℕ → List ℕ
 label_text n = 76 ∷ decimal n
 
 -- what stands between quotation marks
-abbrev pub in_quotes : List ℕ → List ℕ
-in_quotes text = 34 ∷ (text ++ 34 ∷ [])
-
--- a byte of a name: itself, and a backslash before it if it is a quotation mark or a backslash
-abbrev pub marked : ℕ → List ℕ
-marked byte = if byte == 34 || byte == 92 then 92 ∷ byte ∷ [] else byte ∷ []
-
--- a name
 abbrev pub quoted : List ℕ → List ℕ
-quoted text = in_quotes (flat_map marked text)
-
--- a byte of a text: a backslash and three octal digits
-abbrev pub octal : ℕ → List ℕ
-octal byte = 92 ∷ (48 + byte / 64) ∷ (48 + byte / 8 % 8) ∷ (48 + byte % 8) ∷ []
+quoted text = 34 ∷ (text ++ 34 ∷ [])
 
 -- an operand as it is written
 abbrev pub operand_text : Operand → List ℕ
@@ -54,7 +41,6 @@ operand_text (number n) = decimal n
 operand_text (signed z) = signed_decimal z
 operand_text (label n) = label_text n
 operand_text (name text) = quoted text
-operand_text (octals text) = in_quotes (flat_map octal text)
 
 -- an operand behind another: a comma, a blank and itself
 abbrev pub further : Operand → List ℕ

@@ -41,34 +41,12 @@ pub(crate) fn add_label(text: &mut Vec<u8>, n: u64) -> Result<(), Memory>
     add_number(text, n)
 }
 
-/// Adds a byte of a name.
-#[tactic(auto, using(crate::proofs::MarkLemmas::marked_other))]
-fn add_marked(text: &mut Vec<u8>, byte: u8) -> Result<(), Memory>
-    ensures { OnOk result (text.new.items ≡ text.old.items ++ spec.marked byte) }
-{
-    match byte {
-        b'"' => add(text, b"\\\""),
-        b'\\' => add(text, b"\\\\"),
-        _ => add(text, &[byte]),
-    }
-}
-
-/// Adds the bytes of a name.
-fn add_all_marked(text: &mut Vec<u8>, bytes: &[u8]) -> Result<(), Memory>
-    ensures { OnOk result (text.new.items ≡ text.old.items ++ flat_map spec.marked bytes.now) }
-{
-    for byte in bytes {
-        add_marked(text, *byte)?;
-    }
-    Ok(())
-}
-
-/// Adds a name.
+/// Adds what stands between quotation marks.
 pub(crate) fn add_quoted(text: &mut Vec<u8>, bytes: &[u8]) -> Result<(), Memory>
     ensures { OnOk result (text.new.items ≡ text.old.items ++ spec.quoted bytes.now) }
 {
     add(text, b"\"")?;
-    add_all_marked(text, bytes)?;
+    add(text, bytes)?;
     add(text, b"\"")
 }
 
@@ -96,7 +74,7 @@ pub(crate) fn add_further_label(text: &mut Vec<u8>, n: u32) -> Result<(), Memory
     add_label(text, u64::from(n))
 }
 
-/// Adds a name behind another operand.
+/// Adds, behind another operand, what stands between quotation marks.
 pub(crate) fn add_further_quoted(text: &mut Vec<u8>, bytes: &[u8]) -> Result<(), Memory>
     ensures { OnOk result (text.new.items ≡ text.old.items ++ spec.further (spec.name bytes.now)) }
 {

@@ -16,7 +16,7 @@ pub fn forms_hold()
     ensures { lines_from_first forms ≡ form_lines }
 {}
 
-/// Two codes whose numbers are as wide as the code's types make them are one where their texts are.
+/// Two codes whose texts tell them are one where their texts are.
 pub fn one_code_a_text()
     ensures { (x y : Code) → IsToldCode x → IsToldCode y → c_text x ≡ c_text y → x ≡ y }
 {}

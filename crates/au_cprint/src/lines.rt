@@ -3,7 +3,7 @@
 ghost use Rattle.std.specs.Prelude.{◌≡◌, ◌++◌, ◌∷◌, [], OnOk, codes};
 ghost use Rattle.std.specs.List.{flat_map};
 ghost use Rattle.au_cprint.specs.Programs as spec;
-ghost use Rattle.au_cprint.specs.Words.{further, plain, number, octals};
+ghost use Rattle.au_cprint.specs.Words.{further, plain, number, name};
 ghost use Rattle.au_cprint.specs.Words as words;
 
 use crate::adding::{add, add_further, add_further_number, add_further_quoted, add_number};
@@ -13,7 +13,7 @@ use au_low::{Code, Function, LowType};
 
 /// Adds a byte of a text.
 fn add_octal(text: &mut Vec<u8>, byte: u8) -> Result<(), Memory>
-    ensures { OnOk result (text.new.items ≡ text.old.items ++ words.octal byte) }
+    ensures { OnOk result (text.new.items ≡ text.old.items ++ spec.octal byte) }
 {
     let digits = [b'\\', 48 + byte / 64, 48 + byte / 8 % 8, 48 + byte % 8];
     add(text, &digits)
@@ -21,7 +21,7 @@ fn add_octal(text: &mut Vec<u8>, byte: u8) -> Result<(), Memory>
 
 /// Adds the bytes of a text.
 fn add_octals(text: &mut Vec<u8>, bytes: &[u8]) -> Result<(), Memory>
-    ensures { OnOk result (text.new.items ≡ text.old.items ++ flat_map words.octal bytes.now) }
+    ensures { OnOk result (text.new.items ≡ text.old.items ++ flat_map spec.octal bytes.now) }
 {
     for byte in bytes {
         add_octal(text, *byte)?;
@@ -32,7 +32,7 @@ fn add_octals(text: &mut Vec<u8>, bytes: &[u8]) -> Result<(), Memory>
 /// Adds the bytes of a text between quotation marks, as the last operand of a line.
 fn add_last_octals(text: &mut Vec<u8>, bytes: &[u8]) -> Result<(), Memory>
     ensures { OnOk result (text.new.items ≡ text.old.items
-        ++ (further (octals bytes.now) ++ 41 ∷ 10 ∷ [])) }
+        ++ (further (name (flat_map spec.octal bytes.now)) ++ 41 ∷ 10 ∷ [])) }
 {
     add(text, b", \"")?;
     add_octals(text, bytes)?;

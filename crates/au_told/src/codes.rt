@@ -1,9 +1,10 @@
-//! Codes are told by their C texts, since their numbers are as wide as their types. The calls do nothing: they
-//! only read what their contracts speak of.
+//! Codes with plain names are told by their C texts, since their numbers are as wide as their types. The
+//! calls do nothing: they only read what their contracts speak of.
 
 ghost use Rattle.std.specs.List.{AllByRecursion};
 ghost use Rattle.au_cprint.specs.Told.{IsShort, IsToldCode, IsToldFunction, IsToldInstruction, IsToldText};
 ghost use Rattle.au_cprint.specs.Told.{IsWide};
+ghost use Rattle.au_told.specs.Names.{HasPlainNames, IsPlainFunction, IsPlainInstruction};
 
 use au_base::Text;
 use au_low::{Code, Function, Instr};
@@ -30,10 +31,10 @@ fn text_is_told(text: &Text)
     let _length = text.as_bytes().len();
 }
 
-/// The numbers of an instruction are as wide as their types make them.
+/// The numbers of an instruction are as wide as their types make them, and its names are plain.
 #[tactic(auto, using(crate::proofs::ToldLemmas::told_steps))]
 fn instruction_is_told(one: &Instr)
-    ensures { IsToldInstruction one.now }
+    ensures { IsPlainInstruction one.now → IsToldInstruction one.now }
 {
     match one {
         Instr::Push { kind: _, value } => value_is_told(*value),
@@ -142,7 +143,7 @@ fn instruction_is_told(one: &Instr)
 
 /// The same of instructions.
 fn instructions_are_told(all: &[Instr])
-    ensures { AllByRecursion IsToldInstruction all.now }
+    ensures { AllByRecursion IsPlainInstruction all.now → AllByRecursion IsToldInstruction all.now }
 {
     for one in all {
         instruction_is_told(one);
@@ -151,7 +152,7 @@ fn instructions_are_told(all: &[Instr])
 
 /// The same of a function.
 fn function_is_told(one: &Function)
-    ensures { IsToldFunction one.now }
+    ensures { IsPlainFunction one.now → IsToldFunction one.now }
 {
     number_is_told(one.params);
     number_is_told(one.slots);
@@ -160,7 +161,7 @@ fn function_is_told(one: &Function)
 
 /// The same of functions.
 fn functions_are_told(all: &[Function])
-    ensures { AllByRecursion IsToldFunction all.now }
+    ensures { AllByRecursion IsPlainFunction all.now → AllByRecursion IsToldFunction all.now }
 {
     for one in all {
         function_is_told(one);
@@ -176,9 +177,9 @@ fn texts_are_told(all: &[Text])
     }
 }
 
-/// Each code is told by its text.
+/// Each code with plain names is told by its text.
 pub fn code_is_told(code: &Code)
-    ensures { IsToldCode code.now }
+    ensures { HasPlainNames code.now → IsToldCode code.now }
 {
     texts_are_told(code.texts.as_slice());
     functions_are_told(code.functions.as_slice());

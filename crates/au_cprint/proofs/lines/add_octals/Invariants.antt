@@ -1,6 +1,6 @@
 use Rattle.std.proofs.Common.{◌≡◌, ◌++◌, take}
 use Rattle.std.specs.List.{flat_map}
-use Rattle.au_cprint.specs.Words.{octal}
+use Rattle.au_cprint.specs.Programs.{octal}
 use Rattle.au_cprint.proofs.lines.add_octals.Given as goal
 
 -- the bytes so far
