@@ -1,11 +1,10 @@
 -- The graph of declared types: it has the paths by which they lead to one another.
-use Rattle.std.proofs.Common.{◌≡◌, ℕ, zero, suc, ◌+◌, ◌<◌, ◌≤◌, ◌⊎◌, inl, inr, Bool, true, false, cond, List}
-use Rattle.std.proofs.Common.{[], ◌∷◌, length, map, get_or, Option, Some, None, refl, sym, ap, subst}
-use Rattle.std.proofs.Common.{◌∙◌, Contains, arith, zero-add}
+use Rattle.std.proofs.Common.{◌≡◌, ℕ, zero, suc, ◌+◌, ◌≤◌, inl, inr, Bool, true, false, cond, List}
+use Rattle.std.proofs.Common.{[], ◌∷◌, length, Option, Some, None, refl, sym, ap, subst}
+use Rattle.std.proofs.Common.{◌∙◌, arith, zero-add}
 use Rattle.std.specs.List.{cons_option, filter_map}
 use Rattle.std.specs.Prelude.{slice_get}
-use Rattle.std.proofs.lemmas.List.{length-map}
-use Rattle.std.proofs.lemmas.Option.{none-some, same_Some, slice_get-map, slice_get_within}
+use Rattle.std.proofs.lemmas.Option.{none-some, same_Some, slice_get-map}
 use Rattle.std.proofs.lemmas.Option.{get_or_from_slice_get}
 use Rattle.au_graphs.specs.Cycles as graph
 use Rattle.au_graphs.specs.Cycles.{successors}
@@ -107,12 +106,6 @@ declared_by first (m ∷ ms) (suc i) n h = by (same_place n.of m.of) refl (decla
       (let less = rest.2 in omega arith),
     )
 
--- nothing is past the end
-beyond : (xs : List Naming) (i : ℕ) → slice_get xs i ≡ None → length xs ≤ i
-beyond [] i e = omega arith
-beyond (x ∷ xs) zero e = absurd (none-some x (sym e))
-beyond (x ∷ xs) (suc i) e = let rest = beyond xs i e in omega arith
-
 pub mapped_at : (all : List Naming) (a : DeclAt) → Among a (types_declared all)
     → (i : ℕ) × (n : Naming) × (slice_get all i ≡ Some n) × (n.of ≡ a)
 mapped_at [] a m = absurd m
@@ -137,7 +130,7 @@ module _ (all : List Naming) where
       f None = None
       f (Some x) = Some (filter_map (declarer all) x.names)
 
-  pub index_nexts : (a : DeclAt) (k : ℕ) → declarer all a ≡ Some k
+  index_nexts : (a : DeclAt) (k : ℕ) → declarer all a ≡ Some k
       → successors (graph_of all) k ≡ filter_map (declarer all) (names_of all a)
   index_nexts a k h =
       let d = declares 0 all a k h in

@@ -1,5 +1,5 @@
 -- The heads that come to declared types over the graph are those that they reach.
-use Rattle.std.proofs.Common.{◌≡◌, ℕ, zero, suc, ◌+◌, ◌<◌, ◌⊎◌, inl, inr, ⊎_elim, Bool, true, false, cond, List}
+use Rattle.std.proofs.Common.{◌≡◌, ℕ, zero, suc, ◌<◌, ◌⊎◌, inl, inr, Bool, true, false, cond, List}
 use Rattle.std.proofs.Common.{[], ◌∷◌, filter, length, map, Option, Some, None, is_some, refl, sym, ap, subst}
 use Rattle.std.proofs.Common.{◌∙◌, Contains, arith, zero-add}
 use Rattle.std.specs.List.{filter_map}
