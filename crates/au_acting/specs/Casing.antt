@@ -29,8 +29,10 @@ module _ (B : Type 0) (types : Types) (owner : B → Option (List ℕ)) (acts : 
       AreDeclared types → CasesAreAlone types → (r : Value) (t : Meaning) (z tag : ℕ) (of : List Meaning)
       → types.fields t tag ≡ Some of → is_active acts z ≡ true
       → IsSafe types owner acts hold type ((r, writes t (token z)) ∷ under) m w
-      → (borrow : ℕ) (to : Place) (tagged : ℕ) (born : Option ℕ) (parts : Fields (List ℕ)) (kinds : List Meaning)
-      → r ≡ reference borrow to → held_at m to ≡ Some (made tagged born parts) → types.fields t tagged ≡ Some kinds
+      → (borrow : ℕ) (to : Place) (tagged : ℕ) (born : Option ℕ) (parts : Fields (List ℕ))
+      (kinds : List Meaning)
+      → r ≡ reference borrow to → held_at m to ≡ Some (made tagged born parts)
+      → types.fields t tagged ≡ Some kinds
       → length (listed parts) ≡ length kinds
 
   -- A read reference gives way to references to the parts of what it leads to: `case`.

@@ -33,8 +33,8 @@ module _ (B : Type 0) (types : Types) (owner : B → Option (List ℕ)) (acts : 
       IsSafe types owner acts hold type under m w
       → AtMostOnce w.events × Inside w.events × OwnMade owner w.events
 
-  -- Where no token is active, all names are empty, and no value is under way, each birth was consumed; and each
-  -- borrow was closed, where none lies open.
+  -- Where no token is active, all names are empty, and no value is under way, each birth was consumed; and
+  -- each borrow was closed, where none lies open.
   abbrev pub Finishes : Type 0
   Finishes =
       acts ≡ [] → under ≡ [] → ((frame x : ℕ) → hold frame x ≡ empty)

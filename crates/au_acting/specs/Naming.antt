@@ -58,7 +58,8 @@ module _ (B : Type 0) (types : Types) (owner : B → Option (List ℕ)) (acts : 
   -- A write reference in a name that is ready is lent again, while the region of its type is in scope.
   abbrev pub Relends : Type 0
   Relends =
-      AreDeclared types → (a : Act) (older : List Act) → acts ≡ a ∷ older → (frame x : ℕ) (t : Meaning) (y : ℕ)
+      AreDeclared types → (a : Act) (older : List Act) → acts ≡ a ∷ older
+        → (frame x : ℕ) (t : Meaning) (y : ℕ)
       → hold frame x ≡ ready → type frame x ≡ writes t (token y) → is_active acts y ≡ true
       → IsSafe types owner acts hold type under m w
       → (borrow : ℕ) × (to : Place) × (m.at (name_of frame x) ≡ Some (reference borrow to))
@@ -91,7 +92,8 @@ module _ (B : Type 0) (types : Types) (owner : B → Option (List ℕ)) (acts : 
   abbrev pub Puts : Type 0
   Puts =
       AreDeclared types → CasesAreAlone types → AreLawful types → (frame x : ℕ) → hold frame x ≡ ready
-      → (path : List ℕ) (v : Value) (u : Meaning) → LeadsOn types (type frame x) path u → types.is_free u ≡ true
+      → (path : List ℕ) (v : Value) (u : Meaning) → LeadsOn types (type frame x) path u
+      → types.is_free u ≡ true
       → IsSafe types owner acts hold type ((v, u) ∷ under) m w
       → (old : Value) × (held_at m (name_along frame x path) ≡ Some old)
       × IsSafe types owner acts hold type under (written (name_along frame x path) v m) w

@@ -35,8 +35,10 @@ module _ (B : Type 0) (types : Types) (owner : B → Option (List ℕ)) (acts : 
   LendsContents =
       AreDeclared types → BoxesAreAlone types → (r : Value) (t of : Meaning) (z : ℕ) → types.boxed t ≡ Some of
       → is_active acts z ≡ true → IsSafe types owner acts hold type ((r, writes t (token z)) ∷ under) m w
-      → (borrow : ℕ) × (to : Place) × (born : ℕ) × (r ≡ reference borrow to) × (held_at m to ≡ Some (box born))
-      × IsSafe types owner acts hold type ((reference borrow (content_place born), writes of (token z)) ∷ under) m
+      → (borrow : ℕ) × (to : Place) × (born : ℕ) × (r ≡ reference borrow to)
+      × (held_at m to ≡ Some (box born))
+      × IsSafe types owner acts hold type ((reference borrow (content_place born), writes of (token z))
+      ∷ under) m
       (with_use borrow w)
 
   -- It gives way to references to the parts of what it leads to: `case`.
@@ -55,26 +57,31 @@ module _ (B : Type 0) (types : Types) (owner : B → Option (List ℕ)) (acts : 
   -- A read reference gives way to one to a part of what it leads to: nothing is told.
   abbrev pub Moves : Type 0
   Moves =
-      AreDeclared types → CasesAreAlone types → (r : Value) (t : Meaning) (z : ℕ) (path : List ℕ) (u : Meaning)
+      AreDeclared types → CasesAreAlone types → (r : Value) (t : Meaning) (z : ℕ) (path : List ℕ)
+        (u : Meaning)
       → LeadsOn types t path u → is_active acts z ≡ true
       → IsSafe types owner acts hold type ((r, reads t (token z)) ∷ under) m w
       → (borrow : ℕ) × (to : Place) × (r ≡ reference borrow to)
-      × IsSafe types owner acts hold type ((reference borrow (place_along to path), reads u (token z)) ∷ under) m w
+      × IsSafe types owner acts hold type ((reference borrow (place_along to path), reads u (token z))
+      ∷ under) m w
 
   -- It gives way to one to the content of the box that it leads to: `boxGet`.
   abbrev pub SeesContents : Type 0
   SeesContents =
       AreDeclared types → BoxesAreAlone types → (r : Value) (t of : Meaning) (z : ℕ) → types.boxed t ≡ Some of
       → is_active acts z ≡ true → IsSafe types owner acts hold type ((r, reads t (token z)) ∷ under) m w
-      → (borrow : ℕ) × (to : Place) × (born : ℕ) × (r ≡ reference borrow to) × (held_at m to ≡ Some (box born))
-      × IsSafe types owner acts hold type ((reference borrow (content_place born), reads of (token z)) ∷ under) m
+      → (borrow : ℕ) × (to : Place) × (born : ℕ) × (r ≡ reference borrow to)
+      × (held_at m to ≡ Some (box born))
+      × IsSafe types owner acts hold type ((reference borrow (content_place born), reads of (token z))
+      ∷ under) m
       (with_use borrow w)
 
   -- It gives way to a copy of a part of what it leads to, which is Free.
   abbrev pub Copies : Type 0
   Copies =
       AreDeclared types → CasesAreAlone types → AreLawful types → (r : Value) (t : Meaning) (z : ℕ)
-      (path : List ℕ) (u : Meaning) → LeadsOn types t path u → types.is_free u ≡ true → is_active acts z ≡ true
+      (path : List ℕ) (u : Meaning) → LeadsOn types t path u → types.is_free u ≡ true
+      → is_active acts z ≡ true
       → IsSafe types owner acts hold type ((r, reads t (token z)) ∷ under) m w
       → (borrow : ℕ) × (to : Place) × (v : Value) × (r ≡ reference borrow to)
       × (held_at m (place_along to path) ≡ Some v)
@@ -90,7 +97,8 @@ module _ (B : Type 0) (types : Types) (owner : B → Option (List ℕ)) (acts : 
       → IsSafe types owner acts hold type ((new, of) ∷ (r, writes t (token z)) ∷ under) m w
       → (borrow : ℕ) × (to : Place) × (born : ℕ) × (items : List Value) × (r ≡ reference borrow to)
       × (held_at m to ≡ Some (buffer born)) × (m.elements born ≡ Some items)
-      × IsSafe types owner acts hold type under (with_items born (Some (items ++ new ∷ [])) m) (with_use borrow w)
+      × IsSafe types owner acts hold type under (with_items born (Some (items ++ new ∷ [])) m)
+      (with_use borrow w)
       × ((front back : List Value) (old : Value) → items ≡ front ++ old ∷ back
       → IsSafe types owner acts hold type ((old, of) ∷ under) (with_items born (Some (front ++ new ∷ back)) m)
       (with_use borrow w))

@@ -25,7 +25,8 @@ Starts B types owner =
 
 module _ (B : Type 0) (types : Types) (owner : B → Option (List ℕ)) (acts : List Act) (hold : Holds)
     (type : ℕ → ℕ → Meaning) (under : Made) (m : Memory (List ℕ)) (w : Told B) where
-  -- Two states are one where each name stands alike, each that isn't empty has one type, and memory holds the same.
+  -- Two states are one where each name stands alike, each that isn't empty has one type, and memory holds
+  -- the same.
   abbrev pub Agrees : Type 0
   Agrees =
       (others : Holds) (kinds : ℕ → ℕ → Meaning) (n : Memory (List ℕ))

@@ -38,8 +38,8 @@ module _ (B : Type 0) (types : Types) (owner : B → Option (List ℕ)) (acts : 
       → IsSafe types owner acts hold type ((v, t) ∷ under) m w
       → IsPlain v t × IsSafe types owner acts hold type under m w
 
-  -- The borrow of a write reference is used, and nothing else is done; so is that of a read reference, and that of a
-  -- write reference below the newest value.
+  -- The borrow of a write reference is used, and nothing else is done; so is that of a read reference, and
+  -- that of a write reference below the newest value.
   abbrev pub UsesWriters : Type 0
   UsesWriters =
       AreDeclared types → (r : Value) (t : Meaning) (z : ℕ) → is_active acts z ≡ true

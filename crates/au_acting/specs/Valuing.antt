@@ -1,5 +1,5 @@
--- Values under way come and go: those that hold nothing, boxes, buffers, records and unions. Each birth and each end
--- of one is told.
+-- Values under way come and go: those that hold nothing, boxes, buffers, records and unions. Each birth and
+-- each end of one is told.
 use Rattle.std.specs.Prelude.{◌≡◌, ℕ, true, false, List, [], ◌∷◌, Option, Some, None}
 use Rattle.au_effects.specs.Values.{box, buffer, content_of, made}
 use Rattle.au_effects.specs.Worlds.{born}
@@ -63,14 +63,16 @@ module _ (B : Type 0) (types : Types) (owner : B → Option (List ℕ)) (acts : 
       AreDeclared types → BoxesAreAlone types → (v : Value) (t of : Meaning) → types.boxed t ≡ Some of
       → IsSafe types owner acts hold type ((v, t) ∷ under) m w
       → (i : ℕ) × (content : Value) × (v ≡ box i) × (m.at (content_of i) ≡ Some content)
-      × IsSafe types owner acts hold type ((content, of) ∷ under) (with_base (content_of i) None m) (with_end i w)
+      × IsSafe types owner acts hold type ((content, of) ∷ under) (with_base (content_of i) None m)
+      (with_end i w)
 
   -- A buffer without elements is made, as the next birth.
   abbrev pub MakesBuffers : Type 0
   MakesBuffers =
       (t of : Meaning) (kind : B) (home : List ℕ) → types.buffered t ≡ Some of
       → FitsHome owner (born w.next_birth kind home) → IsSafe types owner acts hold type under m w
-      → IsSafe types owner acts hold type ((buffer w.next_birth, t) ∷ under) (with_items w.next_birth (Some []) m)
+      → IsSafe types owner acts hold type ((buffer w.next_birth, t) ∷ under)
+      (with_items w.next_birth (Some []) m)
       (with_birth kind home w)
 
   -- A buffer ends where it has no elements.
@@ -93,7 +95,8 @@ module _ (B : Type 0) (types : Types) (owner : B → Option (List ℕ)) (acts : 
   -- One of another type is made as the next birth.
   abbrev pub MakesLinear : Type 0
   MakesLinear =
-      (vs : Made) (t : Meaning) (tag : ℕ) (kind : B) (home : List ℕ) → types.fields t tag ≡ Some (types_made vs)
+      (vs : Made) (t : Meaning) (tag : ℕ) (kind : B) (home : List ℕ)
+      → types.fields t tag ≡ Some (types_made vs)
       → types.is_free t ≡ false → FitsHome owner (born w.next_birth kind home)
       → IsSafe types owner acts hold type (onto vs under) m w
       → IsSafe types owner acts hold type ((made tag (Some w.next_birth) (fields_made vs), t) ∷ under) m

@@ -3,7 +3,8 @@ use Rattle.std.specs.Prelude.{◌≡◌, ℕ, Bool, true, List, ◌∷◌, ◌++
 use Rattle.au_effects.specs.Calls.{with_elements}
 use Rattle.au_effects.specs.Places.{exchanged, name_set}
 use Rattle.au_effects.specs.Values.{Place, Value, content_of, name_of}
-use Rattle.au_effects.specs.Worlds.{World, bears, closes, content, elements, ends, nothing, opens, spends, tells, used}
+use Rattle.au_effects.specs.Worlds.{World, bears, closes, content, elements, ends, nothing, opens, spends}
+use Rattle.au_effects.specs.Worlds.{tells, used}
 use Rattle.au_places.specs.Memories.{held_at, with_base, with_items, written}
 use Rattle.au_borrows.specs.Told.{Open, numbers, with_birth, with_closings, with_end, with_opening, with_use}
 use Rattle.au_agreeing.specs.Stores.{HasName, memory_of, sizes_of, told_of}
@@ -56,7 +57,8 @@ module _ (T B : Type 0) where
   abbrev pub BirthsAreTold : Type 0
   BirthsAreTold =
       (w : World T B) → w.keeps ≡ true → (lying : List Open)
-      → ((of : B) (home : List ℕ) → told_of lying (bears of home nothing w) ≡ with_birth of home (told_of lying w))
+      → ((of : B) (home : List ℕ) → told_of lying (bears of home nothing w)
+      ≡ with_birth of home (told_of lying w))
       × ((of : B) (home : List ℕ) (v : Value T)
       → told_of lying (bears of home (content v) w) ≡ with_birth of home (told_of lying w))
       × ((of : B) (home : List ℕ) (vs : List (Value T))

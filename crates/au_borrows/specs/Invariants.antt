@@ -4,7 +4,8 @@ use Rattle.au_places.specs.Memories.{Memory}
 use Rattle.au_places.specs.Places.{birth}
 use Rattle.au_types.specs.Types.{Meaning}
 use Rattle.au_memory.specs.Forests.{Core, Holds, Made, in_forest, in_list}
-use Rattle.au_memory.specs.Loans.{Types, Loan, Table, Via, named, lent_of, lent_through, part_of, reading, IsLoan}
+use Rattle.au_memory.specs.Loans.{Types, Loan, Table, Via, named, lent_of, lent_through, part_of, reading}
+use Rattle.au_memory.specs.Loans.{IsLoan}
 use Rattle.au_readers.specs.Exclusive.{BorrowsAreOrdered}
 use Rattle.au_borrows.specs.Orders.{Act, AreSorted, AreStacked, Lies, is_active}
 use Rattle.au_borrows.specs.Told.{Fits, IsOpen, Open, Told, times}
@@ -33,9 +34,9 @@ pub record HasLoan (s : Table) (one : Open) : Type 0 where
   pub at : row.to ≡ one.place
   pub writes : is_writer row.via ≡ one.writes
 
--- How rows and borrows go together: each loan is of a borrow that was opened; one of a borrow that lies open has a
--- token that is active, and writes where the borrow does; what was lent from a loan is of its borrow or a later one;
--- and each borrow that lies open has its loan.
+-- How rows and borrows go together: each loan is of a borrow that was opened; one of a borrow that lies
+-- open has a token that is active, and writes where the borrow does; what was lent from a loan is of its
+-- borrow or a later one; and each borrow that lies open has its loan.
 pub record AreLinked (acts : List Act) (lying : List Open) (next : ℕ) (s : Table) : Type 0 where
   pub opened : (g : ℕ) (l : Loan) → s g ≡ Some l → IsLoan l.via → l.borrow < next
   pub alive : (g : ℕ) (l : Loan) → s g ≡ Some l → IsLoan l.via → 1 ≤ times l.borrow lying
@@ -45,9 +46,9 @@ pub record AreLinked (acts : List Act) (lying : List Open) (next : ℕ) (s : Tab
   pub ordered : BorrowsAreOrdered s
   pub seen : (one : Open) → IsOpen one lying → HasLoan s one
 
--- The invariant: memory is as it should be, where all loans of active tokens are open; what is told fits, where the
--- births that memory and values under way hold are those that weren't consumed; borrows lie in the order of the
--- tokens; and loans go together with them.
+-- The invariant: memory is as it should be, where all loans of active tokens are open; what is told fits,
+-- where the births that memory and values under way hold are those that weren't consumed; borrows lie in
+-- the order of the tokens; and loans go together with them.
 pub record Inv {B : Type 0} (types : Types) (owner : B → Option (List ℕ)) (acts : List Act) (hold : Holds)
     (type : ℕ → ℕ → Meaning) (under : Made) (s : Table) (m : Memory (List ℕ)) (w : Told B) : Type 0 where
   pub clock : ℕ

@@ -1,5 +1,5 @@
--- How the invariant goes on from one action to the next: what an action makes of memory, what it tells, and the
--- rows that it adds.
+-- How the invariant goes on from one action to the next: what an action makes of memory, what it tells, and
+-- the rows that it adds.
 use Rattle.std.specs.Prelude.{◌≡◌, ◌⊎◌, ℕ, ◌+◌, ◌<◌, ◌≤◌, ◌==◌, Bool, true}
 use Rattle.std.specs.Prelude.{List, [], ◌∷◌, ◌++◌, Option, Some, None}
 use Rattle.au_effects.specs.Values.{Place}
@@ -70,7 +70,8 @@ module _ (B : Type 0) (types : Types) (owner : B → Option (List ℕ)) (acts : 
     abbrev pub held_after : ℕ → ℕ
     held_after i = in_forest (birth i) after.top after.forest + in_list (birth i) after.trees
 
-    -- An action that tells nothing keeps the invariant: births count as they did, and new loans are parts of loans.
+    -- An action that tells nothing keeps the invariant: births count as they did, and new loans are parts
+    -- of loans.
     abbrev pub KeepsOn : Type 0
     KeepsOn =
         ((i : ℕ) → held_after i ≡ held i) → AreParts s q → Inv types owner acts others kinds now q n w
@@ -122,7 +123,7 @@ module _ (B : Type 0) (types : Types) (owner : B → Option (List ℕ)) (acts : 
       → ((i : ℕ) → in_forest (birth i) after.top after.forest + in_list (birth i) after.trees ≡ held i)
       → Inv types owner older others type under s m (with_closings newer a.base w)
 
-  -- Where nothing is held at the end, each birth was consumed exactly once; and where no borrow lies open, each was
-  -- closed.
+  -- Where nothing is held at the end, each birth was consumed exactly once; and where no borrow lies open,
+  -- each was closed.
   abbrev pub EndsWell : Type 0
   EndsWell = (((i : ℕ) → held i ≡ 0) → Once w.events) × (w.lying ≡ [] → AllClosed w.events)

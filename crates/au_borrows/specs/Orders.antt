@@ -1,5 +1,6 @@
 -- Tokens that are active, and the order in which borrows lie open.
-use Rattle.std.specs.Prelude.{◌≡◌, ◌⊎◌, ℕ, ◌<◌, ◌≤◌, ◌==◌, Bool, true, false, if◌then◌else◌, List, [], ◌∷◌, ◌++◌}
+use Rattle.std.specs.Prelude.{◌≡◌, ◌⊎◌, ℕ, ◌<◌, ◌≤◌, ◌==◌, Bool, true, false, if◌then◌else◌, List, [], ◌∷◌}
+use Rattle.std.specs.Prelude.{◌++◌}
 use Rattle.au_borrows.specs.Told.{Open, times}
 
 -- borrows that lie open, the newest first
@@ -26,7 +27,8 @@ pub record LieBelow (base lying : List Open) : Type 0 where
   pub newer : List Open
   pub is : lying ≡ newer ++ base
 
--- The borrows lie in the order of the tokens: what lay open when a token began lies below what was opened since.
+-- The borrows lie in the order of the tokens: what lay open when a token began lies below what was opened
+-- since.
 abbrev pub AreStacked : List Act → List Open → Type 0
 AreStacked [] lying = Unit {0}
 AreStacked (a ∷ rest) lying = LieBelow a.base lying × AreStacked rest a.base
@@ -37,7 +39,8 @@ pub record IsAbove (b : ℕ) (base lying : List Open) : Type 0 where
   pub is : lying ≡ newer ++ base
   pub there : 1 ≤ times b newer
 
--- A borrow of a token lies above what lay open when that token began, and below what lay open when the next one did.
+-- A borrow of a token lies above what lay open when that token began, and below what lay open when the next
+-- one did.
 abbrev pub Lies : List Act → List Open → ℕ → ℕ → Type 0
 Lies [] lying z b = ⊥
 Lies (a ∷ rest) lying z b =

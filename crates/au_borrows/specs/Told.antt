@@ -1,5 +1,5 @@
--- What is told of a running program, and how it fits together: births balance with what is held, and the borrows that
--- lie open are those that were opened and aren't closed.
+-- What is told of a running program, and how it fits together: births balance with what is held, and the
+-- borrows that lie open are those that were opened and aren't closed.
 use Rattle.std.specs.Prelude.{◌≡◌, ◌⊎◌, ℕ, suc, ◌+◌, ◌==◌, Bool, List, [], ◌∷◌, ◌++◌, map, Option, nat_lt}
 use Rattle.au_effects.specs.Values.{Place}
 use Rattle.au_effects.specs.Worlds.{Deed, born, closed, consumed, opened, used}
@@ -16,8 +16,8 @@ pub record Open : Type 0 where
 abbrev pub numbers : List Open → List ℕ
 numbers lying = map (λ (one : Open). one.number) lying
 
--- What is told so far, with the numbers of the next birth and of the next borrow, and the borrows that lie open, the
--- newest first.
+-- What is told so far, with the numbers of the next birth and of the next borrow, and the borrows that lie
+-- open, the newest first.
 pub record Told (B : Type 0) : Type 0 where
   pub next_birth : ℕ
   pub next_borrow : ℕ
@@ -68,9 +68,9 @@ module _ {B : Type 0} where
   with_closings (b ∷ rest) left w = with_closings rest left (with_closing b (rest ++ left) w)
 
   module _ (owner : B → Option (List ℕ)) where
-    -- What is told fits, where of each birth so many are held: each that was born is held or was consumed; numbers of
-    -- births and borrows are given in order; the lives of births, the uses of borrows and the homes of what is born
-    -- are as they should be; and what was opened lies open or was closed.
+    -- What is told fits, where of each birth so many are held: each that was born is held or was consumed;
+    -- numbers of births and borrows are given in order; the lives of births, the uses of borrows and the
+    -- homes of what is born are as they should be; and what was opened lies open or was closed.
     pub record Fits (count : ℕ → ℕ) (w : Told B) : Type 0 where
       pub even : (i : ℕ) → count i + ends i w.events ≡ births i w.events
       pub fresh : (i : ℕ) → births i w.events ≡ one_if (nat_lt i w.next_birth)

@@ -6,7 +6,8 @@ ghost use Rattle.au_types.specs.Types.{Meaning};
 ghost use Rattle.au_memory.specs.Forests.{Core, Holds, Made};
 ghost use Rattle.au_memory.specs.Loans.{Table, Types};
 ghost use Rattle.au_borrows.specs.Invariants.{Inv};
-ghost use Rattle.au_borrows.specs.Laws.{BearsOn, BeginsOn, EndsOn, EndsWell, KeepsOn, OpensOn, SpendsOn, UsesOn};
+ghost use Rattle.au_borrows.specs.Laws.{BearsOn, BeginsOn, EndsOn, EndsWell, KeepsOn, OpensOn, SpendsOn};
+ghost use Rattle.au_borrows.specs.Laws.{UsesOn};
 ghost use Rattle.au_borrows.specs.Orders.{is_active, Act};
 ghost use Rattle.au_borrows.specs.Told.{Told};
 
@@ -59,7 +60,8 @@ pub fn tokens_go_on<B>()
         → EndsOn B types owner acts hold type under s m w inv }
 {}
 
-/// At the end each birth was consumed once where nothing is held, and each borrow closed where none lies open.
+/// At the end each birth was consumed once where nothing is held, and each borrow closed where none lies
+/// open.
 pub fn runs_end_well<B>()
     ensures { (types : Types) (owner : B → Option (List ℕ)) (acts : List Act) (hold : Holds)
         (type : ℕ → ℕ → Meaning) (under : Made) (s : Table) (m : Memory (List ℕ)) (w : Told B)

@@ -12,6 +12,7 @@ pub fn an_example_holds()
 
 /// There is one list of some texts.
 pub fn there_is_one_list()
-    ensures { (texts one other : List (List ℕ)) → IsListOf (Contains texts) one → IsListOf (Contains texts) other
+    ensures { (texts one other : List (List ℕ)) → IsListOf (Contains texts) one
+        → IsListOf (Contains texts) other
         → one ≡ other }
 {}

@@ -45,7 +45,8 @@ fn add_list(text: &mut Vec<u8>, word: &[u8], list: &[Text]) -> Result<(), Memory
 /// Adds the lines of what a function can hold and hand on.
 fn add_kept(text: &mut Vec<u8>, row: &Row) -> Result<(), Memory>
     ensures { OnOk result (text.new.items ≡ text.old.items
-        ++ (spec.list_line (codes "  holds") row.now.holds ++ spec.list_line (codes "  hands") row.now.hands)) }
+        ++ (spec.list_line (codes "  holds") row.now.holds
+        ++ spec.list_line (codes "  hands") row.now.hands)) }
 {
     add_list(text, b"  holds", row.holds.as_slice())?;
     add_list(text, b"  hands", row.hands.as_slice())

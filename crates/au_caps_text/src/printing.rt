@@ -27,7 +27,8 @@ fn report_text(alloc: Global, report: &Report) -> Result<Vec<u8>, Memory>
 /// `CapsFault::Write` where the sink failed: a front of the text stands there. `CapsFault::Memory` where no
 /// memory was found: nothing was written.
 pub fn print_report<O: Sink>(alloc: Global, report: &Report, out: &mut O) -> Result<(), CapsFault>
-    ensures written { OnOk result (Adds (O.written out.old) (O.written out.new) (spec.report_text report.now)) }
+    ensures written { OnOk result
+        (Adds (O.written out.old) (O.written out.new) (spec.report_text report.now)) }
     ensures quiet { OnOk result (O.faults out.new ≡ O.faults out.old) }
     ensures front { result ≡ Err CapsFault.Write
         → AddsFront (O.written out.old) (O.written out.new) (spec.report_text report.now) }

@@ -38,8 +38,8 @@ fn spread_from(alloc: Global, back: &Graph, labels: &Graph) -> Result<Graph, Mem
     Ok(made)
 }
 
-/// Of each node of a graph the labels of the nodes that it leads to, its own among them. Of each label the nodes
-/// are given that have it. The labels of a node are in order, each once.
+/// Of each node of a graph the labels of the nodes that it leads to, its own among them. Of each label the
+/// nodes are given that have it. The labels of a node are in order, each once.
 ///
 /// It takes time for each node and each edge once for each label.
 ///

@@ -21,8 +21,8 @@ no_holder at = false
 abbrev pub types_at : List ModuleParts → ℕ → Part → List (Bytes × DeclAt)
 types_at program place part = visible_in program place part (slice_get program place)
 
--- what the fields of a record or a union name, in arguments and behind references too, among the names that are
--- visible and the rows of the declared types
+-- what the fields of a record or a union name, in arguments and behind references too, among the names that
+-- are visible and the rows of the declared types
 abbrev pub names_by : List (Bytes × DeclAt) → List (DeclAt × Head) → PlainDeclaration → List DeclAt
 names_by visible heads d = declaration_names (sense_of [] (type_parameters d) visible heads) no_holder d
 
@@ -31,8 +31,8 @@ abbrev pub names_standing : List ModuleParts → Option Standing → List DeclAt
 names_standing program None = []
 names_standing program (Some d) = names_by (types_at program d.place d.part) (heads_of program) d.says
 
--- What the fields of a declared type name. An opaque type has those of its definition, wherever it is looked at
--- from: what lies inside can be reached by the calls of its module. A shipped one has none.
+-- What the fields of a declared type name. An opaque type has those of its definition, wherever it is
+-- looked at from: what lies inside can be reached by the calls of its module. A shipped one has none.
 abbrev pub names_of : List ModuleParts → DeclAt → List DeclAt
 names_of program at = names_standing program (definition_of program at)
 

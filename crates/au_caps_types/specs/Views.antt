@@ -52,15 +52,16 @@ AreReached program r =
     (at : DeclAt) (h : Bytes) →
     ((place : ℕ) × Contains (places r at) place × IsHeadAt program r place h) ↔ DeclaredReaches program at h
 
--- What the code holds of the heads that declared types reach: each declared type has the places of the heads that
--- it reaches; that of what has a head is found, and what is found at a place stands there.
+-- What the code holds of the heads that declared types reach: each declared type has the places of the
+-- heads that it reaches; that of what has a head is found, and what is found at a place stands there.
 pub record IsReaching (program : List ModuleParts) (r : Reaching) : Type 0 where
   pub reached : AreReached program r
   pub found : (at : DeclAt) (h : Bytes) → head_of program at ≡ Some h → (l : ℕ) × (place_of r at ≡ Some l)
   pub placed : (at : DeclAt) (l : ℕ) → place_of r at ≡ Some l
       → (one : Naming) × (slice_get r.heads.items l ≡ Some one) × (one.of ≡ at)
 
--- The code's tables and labels for some declared types with what their fields name, of which some have a head.
+-- The code's tables and labels for some declared types with what their fields name, of which some have a
+-- head.
 pub record IsHeld (ns hs : List Naming) (r : Reaching) : Type 0 where
   pub table : (a : DeclAt) → index_at r.table a ≡ declarer ns a
   pub heads : r.heads.items ≡ hs

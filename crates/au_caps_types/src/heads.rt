@@ -57,8 +57,8 @@ fn head_by<'a>(opaque: bool, row: Option<&'a Head>) -> Option<&'a [u8]>
     }
 }
 
-/// The head of a declared type, if it has one: it is an opaque type whose universe isn't Free. It is the text of
-/// the type, that is, its module's name, a colon and its own name.
+/// The head of a declared type, if it has one: it is an opaque type whose universe isn't Free. It is the
+/// text of the type, that is, its module's name, a colon and its own name.
 pub fn head_of(program: &Resolved, at: DeclAt) -> Option<&[u8]>
     ensures { option_copied result ≡ spec.head_of (slots.modules program.now) at }
 {

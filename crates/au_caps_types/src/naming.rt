@@ -59,7 +59,8 @@ fn push_found(list: &mut Vec<DeclAt>, found: Option<DeclAt>) -> Result<(), Memor
 #[cycle(push_named)]
 fn push_named(list: &mut Vec<DeclAt>, scope: &Scope, node: &TypeText) -> Result<(), Memory>
     ensures { OnOk result
-        (list.new.items ≡ list.old.items ++ formed.types_named (sense_in scope.now) no_holder (written node.now)) }
+        (list.new.items ≡ list.old.items ++ formed.types_named (sense_in scope.now) no_holder
+        (written node.now)) }
 {
     match node {
         TypeText::Named(name, args) => {

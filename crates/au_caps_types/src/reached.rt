@@ -122,7 +122,8 @@ fn reached_by(
     heads: &Vec<Naming>,
 ) -> Result<Graph, Memory>
     ensures { IfOk result (λ made. AreSpread
-        (graph_by (index_at table.now) namings.now.items) (graph_by (index_at table.now) heads.now.items) made) }
+        (graph_by (index_at table.now) namings.now.items) (graph_by (index_at table.now) heads.now.items)
+        made) }
 {
     let graph = graph_of(alloc, table, namings)?;
     let labels = graph_of(alloc, table, heads)?;

@@ -3,7 +3,8 @@ use Rattle.std.specs.Prelude.{◌≡◌, ℕ, Bool, true, List, map, Option}
 use Rattle.std.specs.Prelude.{slice_get}
 use Rattle.au_closed_trees.specs.ClosedNotes.{Callee, ClosedNote}
 use Rattle.au_type_texts.specs.Types.{ClosedType}
-use Rattle.au_closed_meanings.specs.Programs.{Body, Row, case_from, fields_at, functions_seen, linear_by, row_in}
+use Rattle.au_closed_meanings.specs.Programs.{Body, Row, case_from, fields_at, functions_seen, linear_by}
+use Rattle.au_closed_meanings.specs.Programs.{row_in}
 use Rattle.au_closing.specs.Closes.{ClosedFunction, ClosesFunctions}
 use Rattle.au_closing.specs.Instances.{Instance}
 use Rattle.au_typing.specs.Trees.{NotedParts}

@@ -117,8 +117,8 @@ BodiesStand =
     → body_of program noted target ≡ Some body
     → slice_get (bodies_written noted) (body_place program noted target) ≡ Some body
 
--- The numbers of the names of a body are below those of each body that stands behind it: so no number is that of
--- two declarations.
+-- The numbers of the names of a body are below those of each body that stands behind it: so no number is
+-- that of two declarations.
 abbrev pub NumbersAreApart : Type 0
 NumbersAreApart =
     (bodies : List BodyOf) (place other : ℕ) (b : BodyOf) → place < other
@@ -127,4 +127,5 @@ NumbersAreApart =
 -- the numbers of first names are apart
 abbrev pub FirstNamesAreApart : Type 0
 FirstNamesAreApart =
-    (program : List ModuleParts) (noted : List NotedParts) → NumbersApart program noted (first_name program noted)
+    (program : List ModuleParts) (noted : List NotedParts) → NumbersApart program noted
+    (first_name program noted)

@@ -12,8 +12,8 @@ pub fn closing_keeps_meaning()
     ensures says { ProgramsSay }
 {}
 
-/// The same of closed programs with the rows of their types, where each name has the number of its declaration
-/// in the text of the program.
+/// The same of closed programs with the rows of their types, where each name has the number of its
+/// declaration in the text of the program.
 pub fn closing_keeps_meaning_in_row()
     ensures { KeepsMeaningInRow }
 {}
@@ -30,8 +30,9 @@ pub fn listed_types_count()
     ensures { ListedCount }
 {}
 
-/// The names of a program are numbered body after body in the order of the text: each body stands at its place
-/// among them, and no number is that of two declarations. Instances of one body number its names alike.
+/// The names of a program are numbered body after body in the order of the text: each body stands at its
+/// place among them, and no number is that of two declarations. Instances of one body number its names
+/// alike.
 pub fn numbers_are_of_declarations()
     ensures stand { BodiesStand }
     ensures apart { NumbersAreApart }

@@ -17,11 +17,12 @@ AreClosed (t ∷ ts) (f ∷ fs) = (closed t ≡ Some f.of) × AreClosed ts fs
 AreClosed [] (f ∷ fs) = ⊥
 AreClosed (t ∷ ts) [] = ⊥
 
--- The fields of the case of a number of a running type close to those of the closed type that the running type closes
--- to.
+-- The fields of the case of a number of a running type close to those of the closed type that the running
+-- type closes to.
 abbrev pub FieldsClose : Type 0
 FieldsClose =
-    (program : List ModuleParts) → DefinitionsFit program → (t : Meaning) (c : ClosedType) (tag : ℕ) (of : List Meaning)
+    (program : List ModuleParts) → DefinitionsFit program → (t : Meaning) (c : ClosedType) (tag : ℕ)
+    (of : List Meaning)
     → closed t ≡ Some c → fields_in program t tag ≡ Some of
     → (one : ClosedCase) × (slice_get (cases_of program c) tag ≡ Some one) × AreClosed of one.fields
 

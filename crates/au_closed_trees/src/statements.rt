@@ -171,8 +171,8 @@ fn close_statement<R: Closer>(
     }
 }
 
-/// The closed tree of a block: each note is closed, the names of arms become others, and the same is written at
-/// the same places.
+/// The closed tree of a block: each note is closed, the names of arms become others, and the same is
+/// written at the same places.
 ///
 /// # Errors
 ///

@@ -22,8 +22,8 @@ pub fn name_of(alloc: Global, text: &Text) -> Result<Name, Memory>
     Name::copy_of(alloc, bytes)
 }
 
-/// The name of the case that the name of an arm means where this is seen, as its union declares it. A name that
-/// means nothing stays as it is.
+/// The name of the case that the name of an arm means where this is seen, as its union declares it. A name
+/// that means nothing stays as it is.
 ///
 /// # Errors
 ///

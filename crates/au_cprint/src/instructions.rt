@@ -40,7 +40,8 @@ pub(crate) fn add_word(text: &mut Vec<u8>, word: &[u8], operand: &[u8]) -> Resul
 
 /// Adds a word and two operands.
 fn add_words(text: &mut Vec<u8>, word: &[u8], a: &[u8], b: &[u8]) -> Result<(), Memory>
-    ensures { OnOk result (text.new.items ≡ text.old.items ++ applied word.now (plain a.now ∷ plain b.now ∷ [])) }
+    ensures { OnOk result (text.new.items ≡ text.old.items ++ applied word.now
+        (plain a.now ∷ plain b.now ∷ [])) }
 {
     add_opened(text, word, a)?;
     add_further(text, b)?;

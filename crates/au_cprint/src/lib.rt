@@ -1,4 +1,5 @@
-//! Lowered code as C text: a prelude of fixed bytes, and a line for each text, type, function and instruction.
+//! Lowered code as C text: a prelude of fixed bytes, and a line for each text, type, function and
+//! instruction.
 #![tactic(auto)]
 
 mod adding;

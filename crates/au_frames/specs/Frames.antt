@@ -1,5 +1,6 @@
 -- Frames of a running program: how the names of each stand, and their types.
-use Rattle.std.specs.Prelude.{◌≡◌, ◌⊎◌, ℕ, suc, ◌==◌, true, if◌then◌else◌, List, [], ◌∷◌, length, Option, Some, None}
+use Rattle.std.specs.Prelude.{◌≡◌, ◌⊎◌, ℕ, suc, ◌==◌, true, if◌then◌else◌, List, [], ◌∷◌, length, Option}
+use Rattle.std.specs.Prelude.{Some, None}
 use Rattle.au_effects.specs.Values.{Base, Value, content_of, name_of}
 use Rattle.au_places.specs.Memories.{Memory, with_base}
 use Rattle.au_running_types.specs.Running.{token}
@@ -12,8 +13,8 @@ pub record Frame : Type 0 where
   pub hold : ℕ → Hold
   pub type : ℕ → Meaning
 
--- How names stand in frames, the newest first, and which types they have. The number of a frame is how many are
--- below it.
+-- How names stand in frames, the newest first, and which types they have. The number of a frame is how many
+-- are below it.
 abbrev pub hold_at : List Frame → Holds
 hold_at [] k x = empty
 hold_at (f ∷ fs) k x = if length fs == k then f.hold x else hold_at fs k x

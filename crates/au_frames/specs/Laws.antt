@@ -34,13 +34,15 @@ module _ (B : Type 0) (types : Types) (owner : B → Option (List ℕ)) (acts : 
   abbrev pub FramesBegin : Type 0
   FramesBegin =
       (values : Made) (first : ℕ) → IsSafe types owner acts (hold_at fs) (type_at fs) (onto values under) m w
-      → IsSafe types owner acts (hold_at (frame_of first values ∷ fs)) (type_at (frame_of first values ∷ fs)) under
+      → IsSafe types owner acts (hold_at (frame_of first values ∷ fs))
+      (type_at (frame_of first values ∷ fs)) under
       (with_frame (length fs) first values m) w
 
   -- A frame ends of which the first so many names are loose and the others empty: what they hold is dropped.
   abbrev pub FramesEnd : Type 0
   FramesEnd =
-      AreDeclared types → AreLawful types → (f : Frame) (n : ℕ) → ((x : ℕ) → IsLoose types (f.hold x) (f.type x))
+      AreDeclared types → AreLawful types → (f : Frame) (n : ℕ)
+        → ((x : ℕ) → IsLoose types (f.hold x) (f.type x))
       → ((x : ℕ) → n ≤ x → f.hold x ≡ empty)
       → IsSafe types owner acts (hold_at (f ∷ fs)) (type_at (f ∷ fs)) under m w
       → IsSafe types owner acts (hold_at fs) (type_at fs) under (without_frame (length fs) m) w

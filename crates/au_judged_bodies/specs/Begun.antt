@@ -55,8 +55,8 @@ module _ (types : Types) (owner : ClosedType → Option (List ℕ)) {I K : Type 
         (meaning.with_parameters first (fields_given given params ofs) []) s
         (with_types first (kinds_given s ofs) names)
 
-  -- Where what is known round a body fits, and the regions of what stands for its type parameters may be used,
-  -- it begins so.
+  -- Where what is known round a body fits, and the regions of what stands for its type parameters may be
+  -- used, it begins so.
   abbrev pub BodiesBegin : Type 0
   BodiesBegin =
       (outside : Outside) (generics : List (Constrained Bytes)) (header : Header Bytes) (scope : Scope)

@@ -67,7 +67,8 @@ module _ {I : Type 0} (see : View I Note (Unit {0})) (loose : ℕ → Bool) wher
         IsNewRegion sc region.name × ((of : Meaning) → IsLent sc (mode_for access) x.name of
         → BesidesAll (number + 1)
         (with_reference r.name region.name (borrow_type (mode_for access) region.name of) sc)
-        (meaning.with_reference (meaning.mode_of access) (meaning.variable_of scope x.name) number r.name scope) block)
+        (meaning.with_reference (meaning.mode_of access) (meaning.variable_of scope x.name) number r.name
+        scope) block)
     Besides number sc scope (borrow_typed at r t mode x block stop) =
         (region : Bytes) (of : Meaning) → GoodBorrow sc t mode x.name region of
         → IsNewRegion sc region × BesidesAll (number + 1) (with_reference r.name region of sc)

@@ -46,6 +46,7 @@ CalleesStand =
     → IsPut heads params regions inner put
     → StandsFor heads inner (given_by given put (type_names inner)) (called s z put)
     × ((active : ℕ → Bool) → active z ≡ true
-    → ((name : List ℕ) → IsRegionName regions params name → InScope active (region_for (value_of name s) name))
+    → ((name : List ℕ) → IsRegionName regions params name → InScope active
+    (region_for (value_of name s) name))
     → RegionsStand active inner (called s z put)
     × (TypesAreUsable active params s → TypesAreUsable active inner (called s z put)))

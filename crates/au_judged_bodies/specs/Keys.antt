@@ -44,8 +44,8 @@ module _ (program : List ModuleParts) where
   abbrev pub bounds_in_body : BodyOf → List Bounded
   bounds_in_body body = generics_in (outside_of program body.place Body) body.generics
 
-  -- Constraints hold where bindings stand for type parameters: each class that constrains one has an instance at
-  -- the type that stands for it.
+  -- Constraints hold where bindings stand for type parameters: each class that constrains one has an
+  -- instance at the type that stands for it.
   abbrev pub ConstraintsHold : List Bounded → Bindings → Type 0
   ConstraintsHold generics s =
       (name : Bytes) (class : DeclAt) (value : Meaning) → IsTrue (constrains generics name class)
@@ -54,8 +54,8 @@ module _ (program : List ModuleParts) where
 module _ (program : List ModuleParts) (trees : List NotedParts) where
   -- A way in which a function, or a method of an instance of a class, is called: its instance, of which the
   -- body is there; what stands for the type parameters of this, which closes to what the instance gives for
-  -- them, and that their constraints hold; and tokens, while which are active what stands for the regions among the
-  -- type parameters may be used, and so may the regions in the types that stand for the others.
+  -- them, and that their constraints hold; and tokens, while which are active what stands for the regions
+  -- among the type parameters may be used, and so may the regions in the types that stand for the others.
   pub record Key : Type 0 where
     pub one : Instance
     pub body : BodyOf

@@ -1,5 +1,5 @@
-//! Bodies that are good by the rules of typing, of lives and of names have what statements are asked besides when
-//! they run.
+//! Bodies that are good by the rules of typing, of lives and of names have what statements are asked
+//! besides when they run.
 
 ghost use Rattle.au_meaning.specs.Views.{Function};
 ghost use Rattle.au_typing.specs.Notes.{Note};

@@ -1,5 +1,5 @@
-//! That bodies which are good by the rules of typing and of lives have the judgement where they run. The crate holds
-//! definitions, in `specs/`, and a law about each step of the way.
+//! That bodies which are good by the rules of typing and of lives have the judgement where they run. The
+//! crate holds definitions, in `specs/`, and a law about each step of the way.
 #![tactic(auto)]
 
 pub mod asked_bodies;

@@ -1,4 +1,5 @@
-//! Where each variable of a function has a good life, all names of its frame get through what lies ahead of them.
+//! Where each variable of a function has a good life, all names of its frame get through what lies ahead of
+//! them.
 
 ghost use Rattle.std.specs.Prelude.{ℕ};
 ghost use Rattle.au_lives.specs.declared.lives.Sort.{Sort};

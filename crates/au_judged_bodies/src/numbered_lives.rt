@@ -1,4 +1,5 @@
-//! The good lives of variables in the order of the text are those of names by the numbers of their declarations.
+//! The good lives of variables in the order of the text are those of names by the numbers of their
+//! declarations.
 
 ghost use Rattle.std.specs.Prelude.{List};
 ghost use Rattle.au_meaning.specs.Views.{Function};

@@ -13,7 +13,8 @@ ghost use Rattle.au_meaning.specs.Views.{View};
 ghost use Rattle.au_running_lives.specs.Known.{Callables};
 ghost use Rattle.au_judged_bodies.specs.Sights.{SeenCallsRun};
 
-/// Good calls run where their arguments do, in the order of parameters and by labels, if the meaning sees what they call.
+/// Good calls run where their arguments do, in the order of parameters and by labels, if the meaning sees
+/// what they call.
 pub fn seen_calls_run<I, K>()
     ensures { (types : Types) (owner : ClosedType → Option (List ℕ)) (see : View I Note (Unit {0}))
         (known : Callables I K) (active : ℕ → Bool) (s : Bindings) (z : ℕ) (names : ℕ → Meaning) (sc : Scope)

@@ -31,7 +31,8 @@ is_function other = false
 abbrev pub ConstraintsAreMeant : List ModuleParts → List NotedParts → Type 0
 ConstraintsAreMeant program trees =
     (target : Target) (body : BodyOf) → body_of program trees target ≡ Some body
-    → first_misfit (class_meant (written_params body.generics) (types_at program body.place Body) (heads_of program))
+    → first_misfit (class_meant (written_params body.generics) (types_at program body.place Body)
+    (heads_of program))
     body.generics ≡ None
 
 -- A function is there: a call of it leads to it by its name and its type parameters that aren't regions, and

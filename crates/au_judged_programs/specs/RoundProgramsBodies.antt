@@ -37,14 +37,16 @@ module _ (program : List ModuleParts) (noted : List NotedParts) (place : ℕ) (g
   pub record ConstantsStand : Type 0 where
     pub values : (s : Bindings) (z : ℕ) (name : Bytes) (t : Meaning) (n : Note)
         → (outside_of program place Body).constant name ≡ Some t
-        → (value : Value) × ((view_under program noted place (parameters generics) given).constant n name ≡ Some value)
+        → (value : Value) × ((view_under program noted place (parameters generics) given).constant n name
+        ≡ Some value)
         × IsPlain value (running s z t)
     pub wholes : (name : Bytes) (t : Meaning) → (outside_of program place Body).constant name ≡ Some t
         → (is_some (fields_of program place t) ≡ false) × (target_behind t ≡ None)
 
   -- bindings stand for the type parameters of a body, and the constraints of these hold
   abbrev pub AreGoodHere : Bindings → Type 0
-  AreGoodHere s = StandsFor (heads_of program) (parameters generics) given s × ConstraintsHold program generics s
+  AreGoodHere s = StandsFor (heads_of program) (parameters generics) given s
+      × ConstraintsHold program generics s
 
   -- Calls in a body run in each frame that fits.
   abbrev pub CallsRunHere : (ClosedType → Option (List ℕ)) → {K : Type 0} → Callables Instance K → Type 0

@@ -16,6 +16,8 @@ use Rattle.au_judged_programs.specs.Programs.{MethodsAreSeen}
 -- what the head of its row matches there stands for the type parameters of the instance.
 abbrev pub MethodsOfProgramsAreSeen : List ModuleParts → List NotedParts → Type 0
 MethodsOfProgramsAreSeen program noted =
-    IsChecked program noted → (place : ℕ) (generics : List Bounded) (given : Given) (regions : List Bytes) (s : Bindings) (z : ℕ)
+    IsChecked program noted → (place : ℕ) (generics : List Bounded) (given : Given) (regions : List Bytes)
+    (s : Bindings) (z : ℕ)
     (active : ℕ → Bool) → BodyRuns program (parameters generics) regions given s z active
-    → ConstraintsHold program generics s → MethodsAreSeen program noted place generics given regions s z active
+    → ConstraintsHold program generics s → MethodsAreSeen program noted place generics given regions s z
+    active

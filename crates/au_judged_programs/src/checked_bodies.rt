@@ -1,4 +1,5 @@
-//! The functions that the meaning of a checked program knows are good by the rules of typing, of lives and of names.
+//! The functions that the meaning of a checked program knows are good by the rules of typing, of lives and
+//! of names.
 
 ghost use Rattle.au_judged_programs.specs.Known.{CheckedBodiesAreGood};
 

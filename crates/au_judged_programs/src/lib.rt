@@ -1,5 +1,5 @@
-//! That an accepted program has the judgement, and that its runs are seen well. The crate holds definitions, in
-//! `specs/`, and a law about each step of the way.
+//! That an accepted program has the judgement, and that its runs are seen well. The crate holds
+//! definitions, in `specs/`, and a law about each step of the way.
 #![tactic(auto)]
 
 pub mod called_bodies;

@@ -7,5 +7,6 @@ ghost use Rattle.au_judged_programs.specs.SeenMethods.{MethodsOfProgramsAreSeen}
 
 /// In the bodies of a checked program calls of methods are seen, wherever they run.
 pub fn methods_are_seen()
-    ensures { (program : List ModuleParts) (noted : List NotedParts) → MethodsOfProgramsAreSeen program noted }
+    ensures { (program : List ModuleParts) (noted : List NotedParts)
+        → MethodsOfProgramsAreSeen program noted }
 {}

@@ -7,5 +7,6 @@ ghost use Rattle.au_judged_programs.specs.ShippedCalls.{ShippedOfProgramsAreSeen
 
 /// In the bodies of a checked program calls of shipped functions are seen, wherever they run.
 pub fn shipped_calls_are_seen()
-    ensures { (program : List ModuleParts) (noted : List NotedParts) → ShippedOfProgramsAreSeen program noted }
+    ensures { (program : List ModuleParts) (noted : List NotedParts)
+        → ShippedOfProgramsAreSeen program noted }
 {}

@@ -3,7 +3,8 @@
 ghost use Rattle.std.specs.Prelude.{List};
 ghost use Rattle.au_modules.specs.Programs.{ModuleParts};
 ghost use Rattle.au_judged_bodies.specs.Trees.{NotedParts};
-ghost use Rattle.au_judged_programs.specs.Entries.{AcceptedEntriesRunWell, CallsOfProgramsRun, EntriesRunWell};
+ghost use Rattle.au_judged_programs.specs.Entries.{AcceptedEntriesRunWell, CallsOfProgramsRun};
+ghost use Rattle.au_judged_programs.specs.Entries.{EntriesRunWell};
 ghost use Rattle.au_judged_programs.specs.Entries.{OthersOfProgramsAreSeen};
 
 /// Calls of shipped functions and of methods are seen in the bodies of a checked program.

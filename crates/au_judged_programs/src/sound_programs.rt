@@ -13,7 +13,8 @@ ghost use Rattle.au_judged_programs.specs.Runs.{RunsAreSeenWell};
 
 /// Every run of an accepted program from an entry is seen well, where calls run in the bodies of functions.
 pub fn accepted_programs_run_well()
-    ensures checked { (program : List ModuleParts) (noted : List NotedParts) (owner : ClosedType → Option (List ℕ))
+    ensures checked { (program : List ModuleParts) (noted : List NotedParts)
+        (owner : ClosedType → Option (List ℕ))
         → IsChecked program noted → RunsAreSeenWell program noted owner }
     ensures accepted { (files : Files) (names all : List (List ℕ)) (reads : List ReadFile)
         (a : AreAcceptedAs files names all reads) (owner : ClosedType → Option (List ℕ))

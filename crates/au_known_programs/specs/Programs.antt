@@ -19,8 +19,8 @@ use Rattle.au_typing.specs.Written.{types_at}
 use Rattle.au_tables.specs.Tables.{DefinitionsFit}
 use Rattle.au_known_types.specs.Known.{IsDeclared, OutsideIsKnown, ScopeIsKnown}
 
--- Each declaration of a program is well made where it stands, and the type of each record and union is one that it
--- could write itself, over its type parameters.
+-- Each declaration of a program is well made where it stands, and the type of each record and union is one
+-- that it could write itself, over its type parameters.
 pub record DeclarationsFit (program : List ModuleParts) : Type 0 where
   pub made : (at : DeclAt) (d : Standing) → standing_at program at ≡ Some d
       → IsWellMade (types_at program d.place d.part) (heads_of program) d.says
@@ -32,7 +32,8 @@ pub record DeclarationsFit (program : List ModuleParts) : Type 0 where
 -- What each part of a module sees outside of functions is known.
 abbrev pub OutsidesAreKnown : Type 0
 OutsidesAreKnown =
-    (program : List ModuleParts) → DefinitionsFit program → DeclarationsFit program → (place : ℕ) (part : Part)
+    (program : List ModuleParts) → DefinitionsFit program → DeclarationsFit program
+    → (place : ℕ) (part : Part)
     → OutsideIsKnown (outside_of program place part)
 
 -- What is in scope at the start of a body is known.

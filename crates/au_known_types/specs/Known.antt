@@ -1,5 +1,6 @@
--- Types that are known at a place of a function: well formed, and each name in them is that of a type parameter or of a
--- region in scope there. So a running type stands for each of them in whatever frame the function runs.
+-- Types that are known at a place of a function: well formed, and each name in them is that of a type
+-- parameter or of a region in scope there. So a running type stands for each of them in whatever frame the
+-- function runs.
 use Rattle.std.specs.Prelude.{◌≡◌, ℕ, true, List, [], ◌∷◌, Some, None}
 use Rattle.au_syntax.specs.Plain.{Bytes}
 use Rattle.au_types.specs.declared.headings.Head.{Head}
@@ -52,10 +53,11 @@ module _ (heads : List (DeclAt × Head)) (params : List Parameter) where
   EachIsDeclared [] = Unit {0}
   EachIsDeclared (one ∷ rest) = IsDeclared one.of × EachIsDeclared rest
 
--- What is seen outside of functions is known: constants, what is called, over its own type parameters, and the fields
--- of a type that is known.
+-- What is seen outside of functions is known: constants, what is called, over its own type parameters, and
+-- the fields of a type that is known.
 pub record OutsideIsKnown (outside : Outside) : Type 0 where
-  pub constants : (name : Bytes) (t : Meaning) → outside.constant name ≡ Some t → IsDeclared outside.heads [] t
+  pub constants : (name : Bytes) (t : Meaning) → outside.constant name ≡ Some t
+      → IsDeclared outside.heads [] t
   pub takes : (name : Bytes) (c : Callable) → outside.callable name ≡ Some c
       → EachIsDeclared outside.heads (parameters c.generics) c.parameters
   pub gives : (name : Bytes) (c : Callable) → outside.callable name ≡ Some c

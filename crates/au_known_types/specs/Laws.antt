@@ -8,7 +8,8 @@ use Rattle.au_judged_types.specs.Bounds.{parameters}
 use Rattle.au_running_types.specs.Running.{is_lasting}
 use Rattle.au_written_types.specs.Written.{IsWritten}
 use Rattle.au_typing.specs.Calls.{GoodCall, Shown, by_labels, in_order}
-use Rattle.au_typing.specs.Good.{AllGood, AllGoodIn, AllGoodLabelled, count_of, items_of, labels_of, shown, values_of}
+use Rattle.au_typing.specs.Good.{AllGood, AllGoodIn, AllGoodLabelled, count_of, items_of, labels_of, shown}
+use Rattle.au_typing.specs.Good.{values_of}
 use Rattle.au_typing.specs.InScope.{after, with_bound}
 use Rattle.au_typing.specs.Lookups.{parameters_in}
 use Rattle.au_typing.specs.Notes.{Note, NotedArguments, NotedExpression, NotedExpressions, mode_of, type_of}
@@ -33,12 +34,13 @@ abbrev pub ModesAreKnown : Scope → List Shown → Type 0
 ModesAreKnown sc [] = Unit {0}
 ModesAreKnown sc (a ∷ rest) = ModeIsKnownIn sc a.note.mode × ModesAreKnown sc rest
 
--- What a good call puts for the type parameters of what it calls is known, fits them, and is something for each: so it
--- fixes all that is written over them. And what is wanted of its arguments is known.
+-- What a good call puts for the type parameters of what it calls is known, fits them, and is something for
+-- each: so it fixes all that is written over them. And what is wanted of its arguments is known.
 pub record CallIsKnown (sc : Scope) (note : Note) (name : Bytes) (takes : List Typed → Option (List Meaning))
     (args : List Shown) (good : GoodCall sc note name takes args) : Type 0 where
   pub values : ValuesAreKnown sc.outside.heads (parameters_in sc) sc.regions good.ends
-  pub fit : BindingsAreWellFormed sc.outside.heads (parameters good.called.generics) (parameters_in sc) good.ends
+  pub fit : BindingsAreWellFormed sc.outside.heads (parameters good.called.generics)
+      (parameters_in sc) good.ends
   pub fixes : (t : Meaning) → IsWritten [] (parameters good.called.generics) t → Fixes good.ends t
   pub modes : ModesAreKnown sc args
 
@@ -61,4 +63,5 @@ abbrev pub ScopesStayKnown : Type 0
 ScopesStayKnown = (s : NotedStatement) (sc : Scope) → ScopeIsKnown sc → ScopeIsKnown (after s sc)
 
 abbrev pub BoundScopesAreKnown : Type 0
-BoundScopesAreKnown = (binds : List (Bound Bytes)) (sc : Scope) → ScopeIsKnown sc → ScopeIsKnown (with_bound binds sc)
+BoundScopesAreKnown = (binds : List (Bound Bytes)) (sc : Scope) → ScopeIsKnown sc
+    → ScopeIsKnown (with_bound binds sc)

@@ -1,6 +1,7 @@
 //! Laws of the types of good trees, each as the contract of a call that does nothing.
 
-ghost use Rattle.au_known_types.specs.Laws.{BoundScopesAreKnown, CallsAreKnown, NamedCallsAreKnown, NotesAreKnown};
+ghost use Rattle.au_known_types.specs.Laws.{BoundScopesAreKnown, CallsAreKnown, NamedCallsAreKnown};
+ghost use Rattle.au_known_types.specs.Laws.{NotesAreKnown};
 ghost use Rattle.au_known_types.specs.Laws.{ScopesStayKnown, TestsAreOne};
 
 /// The type of a good expression is known where what is wanted of it is.

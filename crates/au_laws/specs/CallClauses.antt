@@ -12,7 +12,8 @@ use Rattle.au_instances.specs.Pairs.{Pair}
 use Rattle.au_types.specs.declared.parameters.Parameter.{Parameter}
 use Rattle.au_typing.specs.Scopes.{Callable, Scope, Typed}
 use Rattle.au_typing.specs.Bare.{is_bare}
-use Rattle.au_typing.specs.Calls.{Taken, TakenBare, begun, by_labels, first_lacking, first_misfit, first_unfixed}
+use Rattle.au_typing.specs.Calls.{Taken, TakenBare, begun, by_labels, first_lacking, first_misfit}
+use Rattle.au_typing.specs.Calls.{first_unfixed}
 use Rattle.au_typing.specs.Calls.{in_order, types_of_call, wanted_of}
 use Rattle.au_typing.specs.Faults.{Why, why, unfixed, unknown}
 use Rattle.au_typing.specs.Good.{AllGood, count_of, items_of, labels_of, values_of}

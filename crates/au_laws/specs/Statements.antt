@@ -19,7 +19,8 @@ use Rattle.au_types.specs.declared.types.Region.TheVariants as regions
 use Rattle.au_types.specs.Types as mean
 use Rattle.au_types.specs.Types.{Meaning}
 use Rattle.au_instances.specs.Examples.{nat8, of_one, option}
-use Rattle.au_typing.specs.TypingExamples.{alone, boxed, calls, here, kept, mention, named, one, operation, read}
+use Rattle.au_typing.specs.TypingExamples.{alone, boxed, calls, here, kept, mention, named, one, operation}
+use Rattle.au_typing.specs.TypingExamples.{read}
 use Rattle.au_typing.specs.TypingExamples.{whole, write}
 use Rattle.au_typing.specs.Faults.{Why, unknown, different, not_free, shape, after_return, arms_wanted}
 use Rattle.au_typing.specs.Faults.{assignable_wanted, integer_wanted, labels_wanted, range_wanted}

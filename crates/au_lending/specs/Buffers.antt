@@ -70,8 +70,8 @@ pub record LeadsToItems (m : Memory (List ℕ)) (r : Value) (born : ℕ) (items 
 module _ (types : Types) (clock : ℕ) (scope act : ℕ → Bool) (hold : Holds) (type : ℕ → ℕ → Meaning)
     (new r : Value) (t of : Meaning) (z : ℕ) (under : Made) (s : Table) (m : Memory (List ℕ))
     (core : Core types clock scope act hold type ((new, of) ∷ (r, writes t (token z)) ∷ under) s m) where
-  -- The buffer behind a write reference gets other elements, and other values are under way: everything counts as it
-  -- did, but for the reference.
+  -- The buffer behind a write reference gets other elements, and other values are under way: everything
+  -- counts as it did, but for the reference.
   pub record Refilled (born loan : ℕ) (items : List Value) (now : Made) : Type 0 where
     pub after : Core types clock scope act hold type now s (with_items born (Some items) m)
     pub counts : (id : Id)
@@ -96,8 +96,8 @@ module _ (types : Types) (clock : ℕ) (scope act : ℕ → Bool) (hold : Holds)
 module _ (types : Types) (clock : ℕ) (scope act : ℕ → Bool) (hold : Holds) (type : ℕ → ℕ → Meaning)
     (r : Value) (t of : Meaning) (z : ℕ) (under : Made) (s : Table) (m : Memory (List ℕ))
     (core : Core types clock scope act hold type ((r, writes t (token z)) ∷ under) s m) where
-  -- The last element is taken out and is under way instead of the reference: everything counts as it did, but for
-  -- that.
+  -- The last element is taken out and is under way instead of the reference: everything counts as it did,
+  -- but for that.
   pub record Removed (born loan : ℕ) (front : List Value) (last : Value) : Type 0 where
     pub after : Core types clock scope act hold type ((last, of) ∷ under) s (with_items born (Some front) m)
     pub counts : (id : Id)
@@ -110,7 +110,8 @@ module _ (types : Types) (clock : ℕ) (scope act : ℕ → Bool) (hold : Holds)
     pub loan : ℕ
     pub items : List Value
     pub leads : LeadsToItems m r born items
-    pub taken : (front : List Value) (last : Value) → items ≡ front ++ last ∷ [] → Removed born loan front last
+    pub taken : (front : List Value) (last : Value) → items ≡ front ++ last ∷ []
+        → Removed born loan front last
 
   -- So it may be while the token of the reference is in scope.
   abbrev pub ItemsAreTaken : Type 0

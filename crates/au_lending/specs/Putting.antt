@@ -1,4 +1,5 @@
--- A part of Free type of what a name holds, or of what a reference in it leads to, gives way to another value.
+-- A part of Free type of what a name holds, or of what a reference in it leads to, gives way to another
+-- value.
 use Rattle.std.specs.Prelude.{◌≡◌, ℕ, ◌+◌, Bool, true, List, ◌∷◌, Some}
 use Rattle.au_effects.specs.References.{name_along, place_along}
 use Rattle.au_effects.specs.Values.{Place, name_of, reference}
@@ -17,7 +18,8 @@ use Rattle.au_lending.specs.Seeing.{LeadsOn}
 module _ (types : Types) (clock : ℕ) (scope act : ℕ → Bool) (hold : Holds) (type : ℕ → ℕ → Meaning)
     (v : Value) (u : Meaning) (under : Made) (s : Table) (m : Memory (List ℕ))
     (core : Core types clock scope act hold type ((v, u) ∷ under) s m) where
-  -- The newest value is put at a place where a value stands, which is no more; and everything counts as it did.
+  -- The newest value is put at a place where a value stands, which is no more; and everything counts as it
+  -- did.
   pub record Put (to : Place) : Type 0 where
     pub old : Value
     pub there : held_at m to ≡ Some old
@@ -26,16 +28,16 @@ module _ (types : Types) (clock : ℕ) (scope act : ℕ → Bool) (hold : Holds)
         → in_forest id after.top after.forest + in_list id after.trees
         ≡ in_forest id core.top core.forest + in_list id core.trees
 
-  -- So it may be at the end of a path from a name that is ready, where what stands there is of a Free type, which
-  -- is that of the value.
+  -- So it may be at the end of a path from a name that is ready, where what stands there is of a Free type,
+  -- which is that of the value.
   abbrev pub PartsArePut : Type 0
   PartsArePut =
       AreDeclared types → CasesAreAlone types → AreLawful types → (frame x : ℕ) → hold frame x ≡ ready
       → (path : List ℕ) → LeadsOn types (type frame x) path u → types.is_free u ≡ true
       → Put (name_along frame x path)
 
-  -- The same behind a write reference in a name that is ready, or lent to read, while the region of its type is in
-  -- scope.
+  -- The same behind a write reference in a name that is ready, or lent to read, while the region of its
+  -- type is in scope.
   abbrev pub PartsArePutBehind : Type 0
   PartsArePutBehind =
       AreDeclared types → CasesAreAlone types → AreLawful types → (frame x : ℕ) → IsReadable (hold frame x)

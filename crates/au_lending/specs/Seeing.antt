@@ -20,7 +20,8 @@ abbrev pub field_steps : List ℕ → List Step
 field_steps [] = []
 field_steps (i ∷ path) = field i ∷ field_steps path
 
--- A path of fields leads from a type to another: each type on the way is a record's, which has the one case 0.
+-- A path of fields leads from a type to another: each type on the way is a record's, which has the one case
+-- 0.
 abbrev pub LeadsOn : Types → Meaning → List ℕ → Meaning → Type 0
 LeadsOn types t [] u = t ≡ u
 LeadsOn types t (i ∷ path) u =
@@ -33,8 +34,8 @@ LeadsOn types t (i ∷ path) u =
 module _ (types : Types) (clock : ℕ) (scope act : ℕ → Bool) (hold : Holds) (type : ℕ → ℕ → Meaning)
     (r : Value) (t : Meaning) (z : ℕ) (under : Made) (s : Table) (m : Memory (List ℕ))
     (core : Core types clock scope act hold type ((r, reads t (token z)) ∷ under) s m) where
-  -- The newest value is a reference of a read borrow: it leads to a point of what was lent, where a value of its
-  -- type stands.
+  -- The newest value is a reference of a read borrow: it leads to a point of what was lent, where a value
+  -- of its type stands.
   pub record Sees : Type 0 where
     pub loan : ℕ
     pub steps : List Step
@@ -50,8 +51,8 @@ module _ (types : Types) (clock : ℕ) (scope act : ℕ → Bool) (hold : Holds)
   abbrev pub ReadersSee : Type 0
   ReadersSee = AreDeclared types → scope z ≡ true → Sees
 
-  -- The reference gives way to one of the same borrow, to a point that steps lead to; and everything counts as
-  -- it did.
+  -- The reference gives way to one of the same borrow, to a point that steps lead to; and everything counts
+  -- as it did.
   pub record Moved (borrow : ℕ) (to : Place) (u : Meaning) : Type 0 where
     pub after : Core types clock scope act hold type ((reference borrow to, reads u (token z)) ∷ under) s m
     pub counts : (id : Id)
@@ -78,8 +79,8 @@ module _ (types : Types) (clock : ℕ) (scope act : ℕ → Bool) (hold : Holds)
       AreDeclared types → BoxesAreAlone types → (of : Meaning) → types.boxed t ≡ Some of → scope z ≡ true
       → ContentSeen of
 
-  -- What it leads to, or a part of that, is copied: the copy is under way in its place, and everything counts as
-  -- it did.
+  -- What it leads to, or a part of that, is copied: the copy is under way in its place, and everything
+  -- counts as it did.
   pub record Copied (path : List ℕ) (u : Meaning) : Type 0 where
     pub borrow : ℕ
     pub to : Place
@@ -102,8 +103,8 @@ module _ (types : Types) (clock : ℕ) (scope act : ℕ → Bool) (hold : Holds)
 module _ (types : Types) (clock : ℕ) (scope act : ℕ → Bool) (hold : Holds) (type : ℕ → ℕ → Meaning)
     (under : Made) (s : Table) (m : Memory (List ℕ)) (core : Core types clock scope act hold type under s m)
     (frame x : ℕ) where
-  -- A copy of a part of what a name holds, or behind a reference in it, comes under way: it stands at this place,
-  -- and everything counts as it did.
+  -- A copy of a part of what a name holds, or behind a reference in it, comes under way: it stands at this
+  -- place, and everything counts as it did.
   pub record Looked (to : Place) (u : Meaning) : Type 0 where
     pub value : Value
     pub there : held_at m to ≡ Some value
@@ -122,7 +123,8 @@ module _ (types : Types) (clock : ℕ) (scope act : ℕ → Bool) (hold : Holds)
   -- The same behind a write reference in a name, while the region of its type is in scope.
   abbrev pub NamesLookBehind : Type 0
   NamesLookBehind =
-      AreDeclared types → CasesAreAlone types → AreLawful types → IsReadable (hold frame x) → (t : Meaning) (z : ℕ)
+      AreDeclared types → CasesAreAlone types → AreLawful types → IsReadable (hold frame x)
+      → (t : Meaning) (z : ℕ)
       → type frame x ≡ writes t (token z) → scope z ≡ true → (path : List ℕ) (u : Meaning)
       → LeadsOn types t path u → types.is_free u ≡ true
       → (borrow : ℕ) × (to : Place) × (m.at (name_of frame x) ≡ Some (reference borrow to))

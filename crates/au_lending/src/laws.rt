@@ -13,7 +13,8 @@ ghost use Rattle.au_lending.specs.Laws.{NamesAreRead};
 ghost use Rattle.au_lending.specs.Laws.{NamesFill, NamesLend};
 ghost use Rattle.au_lending.specs.Laws.{ReferencesLend, ReferencesSwap};
 ghost use Rattle.au_lending.specs.Parting.{PartsAreLent, PartsRejoin};
-ghost use Rattle.au_lending.specs.Buffers.{BuffersAreMade, BuffersEnd, ItemsArePut, ItemsAreSeen, ItemsAreTaken};
+ghost use Rattle.au_lending.specs.Buffers.{BuffersAreMade, BuffersEnd, ItemsArePut, ItemsAreSeen};
+ghost use Rattle.au_lending.specs.Buffers.{ItemsAreTaken};
 ghost use Rattle.au_lending.specs.Ending.{TokensEnd};
 ghost use Rattle.au_lending.specs.Putting.{PartsArePut, PartsArePutBehind};
 ghost use Rattle.au_lending.specs.Records.{onto, RecordsAreMade, RecordsOpen};
@@ -153,8 +154,8 @@ pub fn records_are_made_and_opened()
         → RecordsOpen types clock scope act hold type v t under s m core }
 {}
 
-/// While its token is in scope a read reference leads to a value of its type. It may give way to one to a part
-/// of that or to the content of a box, and what it leads to may be copied where it is Free.
+/// While its token is in scope a read reference leads to a value of its type. It may give way to one to a
+/// part of that or to the content of a box, and what it leads to may be copied where it is Free.
 pub fn readers_see()
     ensures seen { (types : Types) (clock : ℕ) (scope act : ℕ → Bool) (hold : Holds)
         (type : ℕ → ℕ → Meaning) (r : Value) (t : Meaning) (z : ℕ) (under : Made) (s : Table)
@@ -203,8 +204,8 @@ pub fn parts_are_put()
         → PartsArePutBehind types clock scope act hold type v u under s m core }
 {}
 
-/// Behind a write reference whose token is in scope the newest value becomes the last element of a buffer, or is
-/// exchanged for one.
+/// Behind a write reference whose token is in scope the newest value becomes the last element of a buffer,
+/// or is exchanged for one.
 pub fn items_are_put()
     ensures { (types : Types) (clock : ℕ) (scope act : ℕ → Bool) (hold : Holds) (type : ℕ → ℕ → Meaning)
         (new r : Value) (t of : Meaning) (z : ℕ) (under : Made) (s : Table) (m : Memory (List ℕ))
@@ -232,7 +233,8 @@ pub fn buffers_are_made_and_end()
         → BuffersEnd types clock scope act hold type v t of under s m core }
 {}
 
-/// While its token is in scope a read reference to a buffer leads to its elements, and what is Free is copied.
+/// While its token is in scope a read reference to a buffer leads to its elements, and what is Free is
+/// copied.
 pub fn items_are_seen()
     ensures { (types : Types) (clock : ℕ) (scope act : ℕ → Bool) (hold : Holds) (type : ℕ → ℕ → Meaning)
         (r : Value) (t : Meaning) (z : ℕ) (under : Made) (s : Table) (m : Memory (List ℕ))

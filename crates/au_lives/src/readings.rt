@@ -3,7 +3,8 @@
 ghost use Rattle.std.specs.Prelude.{◌≡◌, ◌+◌};
 ghost use Rattle.au_syntax.specs.Views.{statement, block, branch_all, arm_all};
 ghost use Rattle.au_syntax.specs.Plain.{plain_statement, plain_statements, plain_branches, plain_arms};
-ghost use Rattle.au_lives.specs.Choices.{places, places_of_block, places_of_branches, places_of_arms, counted};
+ghost use Rattle.au_lives.specs.Choices.{places, places_of_block, places_of_branches, places_of_arms};
+ghost use Rattle.au_lives.specs.Choices.{counted};
 
 use au_syntax::{Arm, Block, Branch, Phase, Stmt};
 

@@ -1,7 +1,7 @@
-//! The code of blocks in closed trees, behind other code, with texts and types that stand for themselves, and
-//! what it is made of: the variables that statements declare and their slots, statements that hold no block,
-//! the jumps to ends that are found later, the fields that are bound, where the arms of cases begin, and how many
-//! slots are in use.
+//! The code of blocks in closed trees, behind other code, with texts and types that stand for themselves,
+//! and what it is made of: the variables that statements declare and their slots, statements that hold no
+//! block, the jumps to ends that are found later, the fields that are bound, where the arms of cases begin,
+//! and how many slots are in use.
 #![tactic(auto)]
 
 pub mod arms;

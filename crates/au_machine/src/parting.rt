@@ -66,8 +66,8 @@ impl State {
         Ok(self.go())
     }
 
-    /// Pops a union's value, puts its fields into slots from one on, and goes to the label of its case. Behind
-    /// a reference that is popped, references to the fields are put there.
+    /// Pops a union's value, puts its fields into slots from one on, and goes to the label of its case.
+    /// Behind a reference that is popped, references to the fields are put there.
     #[inline(never)]
     pub fn take_case(
         &mut self,

@@ -54,7 +54,8 @@ fn walked_borrow_names<P: Phase, Q: Phase, W: Walk<P, Q>>(
     })
 }
 
-/// What a borrow statement with a written type says of its reference: its name and type, and how what is lent.
+/// What a borrow statement with a written type says of its reference: its name and type, and how what is
+/// lent.
 #[derive_where(Clone, Copy)]
 struct TypedBorrow<'a, P: Phase> {
     name: &'a Ident<P>,

@@ -172,8 +172,8 @@ makes_value true of tag home fields = do
   does (λ world. in_store (bears of home nothing world.store) world)
   pure (made tag (Some id) (fields_of fields))
 
--- a record is taken apart into the number of its case, which is 0, and its fields: it is consumed where it has
--- a birth
+-- a record is taken apart into the number of its case, which is 0, and its fields: it is consumed where it
+-- has a birth
 abbrev pub apart : Value → Action (ℕ × List Value)
 apart (made tag birth fields) = do
   does (λ world. in_store (spends birth world.store) world)

@@ -131,8 +131,8 @@ told_type (types.reads t) = t
 told_type (types.writes t) = t
 told_type other = other
 
--- The fields of a case, as they are reached through a type: behind a reference they are references of the same
--- access.
+-- The fields of a case, as they are reached through a type: behind a reference they are references of the
+-- same access.
 abbrev pub fields_through : ClosedType → Option (List Field) → Option (List Field)
 fields_through (types.reads t) fields =
     option_map (map (λ (field : Field). record field { of = types.reads field.of })) fields

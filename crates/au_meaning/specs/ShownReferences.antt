@@ -6,7 +6,8 @@ use Rattle.au_syntax.specs.declared.types.Access.TheVariants as access
 use Rattle.au_syntax.specs.Expressions.{Node, nil, path, arrow, parenthesized, dereference, borrow}
 use Rattle.au_syntax.specs.Expressions.{borrow_part}
 use Rattle.au_syntax.specs.Plain.{Bytes}
-use Rattle.au_syntax.specs.Statements.{skip, assign_through, case_of, borrow_in, borrow_typed, return_of, arms}
+use Rattle.au_syntax.specs.Statements.{skip, assign_through, case_of, borrow_in, borrow_typed, return_of}
+use Rattle.au_syntax.specs.Statements.{arms}
 use Rattle.au_syntax.specs.Statements.{no_arms}
 use Rattle.au_syntax.specs.Types as written
 use Rattle.au_syntax.specs.Types.{WrittenType}

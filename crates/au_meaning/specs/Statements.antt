@@ -111,8 +111,8 @@ module _ {I T C : Type 0} (see : View I T C) where
   abbrev pub fields_noted : T → Option (List Field)
   fields_noted note = along (see.type_of note) (λ of. see.fields of 0)
 
-  -- of a union, or one behind a reference, by the note of the expression that is told apart: the number of the
-  -- case that a name means, and the fields of the case of a number, as they are bound
+  -- of a union, or one behind a reference, by the note of the expression that is told apart: the number of
+  -- the case that a name means, and the fields of the case of a number, as they are bound
   abbrev pub tag_told : T → Bytes → Option ℕ
   tag_told note name = along (see.type_of note) (λ of. see.tag (told_type of) name)
 

@@ -28,7 +28,8 @@ use au_syntax::{
 use std::alloc::Global;
 use std::collections::VecDeque;
 
-/// What a borrow statement with a written type says of its reference: its name and type, and how what is lent.
+/// What a borrow statement with a written type says of its reference: its name and type, and how what is
+/// lent.
 #[derive(Clone, Copy)]
 struct TypedBorrow<'a> {
     name: &'a Ident<Parsed>,

@@ -21,7 +21,8 @@ use Rattle.au_syntax.specs.Names.{Placed}
 use Rattle.au_syntax.specs.Plain.{Bytes, PlainExpression, PlainStatements, PlainMethod, PlainDeclaration}
 use Rattle.au_syntax.specs.Types.{WrittenType, Labelled}
 use Rattle.au_read_expressions.specs.Bounds.{Bounds}
-use Rattle.au_read_expressions.specs.Reading.{Read, front, is_front, begins_with, no, value_at, name_at, exactly}
+use Rattle.au_read_expressions.specs.Reading.{Read, front, is_front, begins_with, no, value_at, name_at}
+use Rattle.au_read_expressions.specs.Reading.{exactly}
 use Rattle.au_read_expressions.specs.Reading.{behind_tokens, closed, pair, shaped, built}
 use Rattle.au_read_expressions.specs.Reading.{repeated, listed, bracketed}
 use Rattle.au_read_expressions.specs.TypeReading.{type_at}

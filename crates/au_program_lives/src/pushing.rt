@@ -2,7 +2,8 @@
 
 ghost use Rattle.std.specs.Prelude.{◌≡◌, ◌++◌, ◌∷◌, [], IfOk, OnOk, map};
 ghost use Rattle.au_program_lives.specs.Scopes.{opened_by, opened_in, scope_said};
-ghost use Rattle.au_program_lives.specs.Said.{arms_said, binds_said, block_said, branches_said, parameters_said};
+ghost use Rattle.au_program_lives.specs.Said.{arms_said, binds_said, block_said, branches_said};
+ghost use Rattle.au_program_lives.specs.Said.{parameters_said};
 ghost use Rattle.au_program_lives.specs.Said.{statement_said};
 ghost use Rattle.au_program_lives.specs.Sorts as spec;
 ghost use Rattle.au_syntax.specs.Views.{placed, written};

@@ -1,5 +1,5 @@
-//! Tests of calls that no program shows yet, and of the adapters over real files, in a crate of their own: a crate
-//! with tests is proved twice.
+//! Tests of calls that no program shows yet, and of the adapters over real files, in a crate of their own:
+//! a crate with tests is proved twice.
 #![tactic(auto)]
 
 #[cfg(test)]

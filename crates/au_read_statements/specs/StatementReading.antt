@@ -31,7 +31,8 @@ use Rattle.au_syntax.specs.Statements.{no_branches, branches, no_arms, arms}
 use Rattle.au_syntax.specs.Types.{WrittenType, Bound}
 use Rattle.au_read_expressions.specs.declared.faults.Fault.TheVariants.{Passed}
 use Rattle.au_read_expressions.specs.Bounds.{Bounds, nesting_limit}
-use Rattle.au_read_expressions.specs.Reading.{Read, ◌>>=◌, front, is_front, begins_with, no, value_at, name_at}
+use Rattle.au_read_expressions.specs.Reading.{Read, ◌>>=◌, front, is_front, begins_with, no, value_at}
+use Rattle.au_read_expressions.specs.Reading.{name_at}
 use Rattle.au_read_expressions.specs.Reading.{exactly, behind_tokens, closed, pair, shaped}
 use Rattle.au_read_expressions.specs.Reading.{built, before_all, repeated}
 use Rattle.au_read_expressions.specs.Reading.{listed, bracketed, optional, fields_at}

@@ -31,25 +31,29 @@ abbrev pub field_spot : Spot → ℕ → Spot
 field_spot at index = record { holder = at.holder; path = at.path ++ index ∷ [] }
 
 module _ (m : Memory (List ℕ)) where
-  -- A value is held at a spot: it is that of a name, a field of a value that is held, what lies in a box that is held,
-  -- or an element of a buffer that is held.
+  -- A value is held at a spot: it is that of a name, a field of a value that is held, what lies in a box
+  -- that is held, or an element of a buffer that is held.
   pub data IsHeldAt : Spot → Value → Type 0 where
     of_name : (frame name : ℕ) (v : Value) → m.at (name_of frame name) ≡ Some v
         → IsHeldAt (all_of (in_name frame name)) v
     of_field : (at : Spot) (tag : ℕ) (birth : Option ℕ) (fields : Fields (List ℕ)) (index : ℕ) (v : Value)
-        → IsHeldAt at (made tag birth fields) → nth_field index fields ≡ Some v → IsHeldAt (field_spot at index) v
+        → IsHeldAt at (made tag birth fields) → nth_field index fields ≡ Some v
+        → IsHeldAt (field_spot at index) v
     of_box : (at : Spot) (birth : ℕ) (v : Value) → IsHeldAt at (box birth) → m.at (content_of birth) ≡ Some v
         → IsHeldAt (all_of (in_box birth)) v
-    of_buffer : (at : Spot) (birth : ℕ) (all : List Value) (index : ℕ) (v : Value) → IsHeldAt at (buffer birth)
-        → m.elements birth ≡ Some all → slice_get all index ≡ Some v → IsHeldAt (all_of (in_buffer birth index)) v
+    of_buffer : (at : Spot) (birth : ℕ) (all : List Value) (index : ℕ) (v : Value)
+        → IsHeldAt at (buffer birth)
+        → m.elements birth ≡ Some all → slice_get all index ≡ Some v
+        → IsHeldAt (all_of (in_buffer birth index)) v
 
   -- ---- places
 
-  -- A place lies under another: it is at the end of a path from there; or a box stands at a place that lies under the
-  -- other, and it lies in the box's content.
+  -- A place lies under another: it is at the end of a path from there; or a box stands at a place that lies
+  -- under the other, and it lies in the box's content.
   pub data LiesUnder (outer : Place) : Place → Type 0 where
     on_from : (path : List ℕ) → LiesUnder outer (place_along outer path)
-    in_content : (to : Place) (birth : ℕ) (path : List ℕ) → LiesUnder outer to → held_at m to ≡ Some (box birth)
+    in_content : (to : Place) (birth : ℕ) (path : List ℕ) → LiesUnder outer to
+        → held_at m to ≡ Some (box birth)
         → LiesUnder outer (place_along (content_place birth) path)
 
   -- two places overlap
@@ -66,7 +70,8 @@ IsLater via borrow other = borrow < other
 -- So it is with each loan of a table that was lent from a loan.
 abbrev pub BorrowsAreOrdered : Table → Type 0
 BorrowsAreOrdered s =
-    (g : ℕ) (l : Loan) (k : ℕ) (n : Loan) → s g ≡ Some l → parent_of l.via ≡ Some k → s k ≡ Some n → IsLoan n.via
+    (g : ℕ) (l : Loan) (k : ℕ) (n : Loan) → s g ≡ Some l → parent_of l.via ≡ Some k → s k ≡ Some n
+    → IsLoan n.via
     → IsLater l.via n.borrow l.borrow
 
 -- ---- exclusive borrows
@@ -77,7 +82,8 @@ module _ (types : Types) (clock : ℕ) (scope act : ℕ → Bool) (hold : Holds)
     -- each loan of a borrow writes, and its token is in scope
     abbrev pub OnlyWrites : ℕ → Type 0
     OnlyWrites b =
-        (g : ℕ) (l : Loan) → s g ≡ Some l → IsLoan l.via → l.borrow ≡ b → IsWriter l.via × (scope l.token ≡ true)
+        (g : ℕ) (l : Loan) → s g ≡ Some l → IsLoan l.via → l.borrow ≡ b
+        → IsWriter l.via × (scope l.token ≡ true)
 
     -- Of the references that are held for such a borrow, no two have overlapping places.
     abbrev pub WritersAreApart : Type 0

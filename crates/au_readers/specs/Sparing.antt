@@ -26,7 +26,8 @@ module _ (types : Types) (clock : ℕ) (scope act : ℕ → Bool) (hold : Holds)
     abbrev pub WritersSpareReads : Type 0
     WritersSpareReads =
         (g r : ℕ) (l n : Loan) (steps : List Step) (one : Point)
-        → IsHeld types clock scope act hold type under s m core g l → Sees r steps n one → AreApart l.to one.to
+        → IsHeld types clock scope act hold type under s m core g l → Sees r steps n one
+        → AreApart l.to one.to
 
     -- So is each place of a name that is ready.
     abbrev pub NamesSpareReads : Type 0

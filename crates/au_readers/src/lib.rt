@@ -1,4 +1,5 @@
-//! Nothing is written where an open read borrow sees. The crate holds definitions, in `specs/`, and laws about them.
+//! Nothing is written where an open read borrow sees. The crate holds definitions, in `specs/`, and laws
+//! about them.
 #![tactic(auto)]
 
 pub mod laws;

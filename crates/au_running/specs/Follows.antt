@@ -24,7 +24,8 @@ LoweredProgramsFollow =
     → (closes : Closes program noted owner name c) → IsRunnable program noted
     → (input : List ℕ) (ticks : ℕ)
     → ((means program noted closes.entry input ticks).ending ≡ stuck → ⊥)
-    → Follows (told_in c.types) (functions_numbered (numbers_of program noted closes.functions.instances) c) input
+    → Follows (told_in c.types) (functions_numbered (numbers_of program noted closes.functions.instances) c)
+    input
     (means program noted closes.entry input ticks)
 
 -- A run of code ends in step with what is meant on an input, which has ended within so many ticks, after t of

@@ -31,8 +31,9 @@ use Rattle.au_syntax.specs.Plain.{Bytes}
 abbrev pub IsIdle : (told left out out' : Option (List ℕ)) → Type 0
 IsIdle told left out out' = (left ≡ told) × (out' ≡ out)
 
--- A program is safe to run from an entry: its declarations are good, and what it means from there, with whichever
--- notes the rules of typing derive it, is never stuck, whatever input comes and for however many ticks.
+-- A program is safe to run from an entry: its declarations are good, and what it means from there, with
+-- whichever notes the rules of typing derive it, is never stuck, whatever input comes and for however many
+-- ticks.
 pub record IsSafeFrom (program : List ModuleParts) (owner name : Bytes) : Type 0 where
   pub declared : AllDeclarationsAreGood program
   pub unstuck :
@@ -73,8 +74,8 @@ module _ (program : List ModuleParts) (noted : List NotedParts) (owner name : By
   ProgramIsCut steps told out out' =
       (it : IsLowered) × IsCut (low_run false (code_of it.c)) steps told out out'
 
-  -- This is answered of a run of the program for at most so many steps, and shows what the program means from its
-  -- entry.
+  -- This is answered of a run of the program for at most so many steps, and shows what the program means
+  -- from its entry.
   pub record RunsAsMeant (ran : Ran) (steps : ℕ) (told left out out' : Option (List ℕ)) : Type 0 where
     pub entry : Target
     pub root : Bool

@@ -42,9 +42,9 @@ AnswerShows (ran.Abort words) meant limit written left =
 AnswerShows ran.Steps meant limit written left = IsCutOff meant limit written
 AnswerShows other meant limit written left = ⊥
 
--- What a call shows of what is meant, by what it answers of a run with so many steps. It took these bytes of its
--- input and left the rest, and wrote these, as is told of its input and its output before and behind it; and
--- its answer, with these, shows what is meant on that input.
+-- What a call shows of what is meant, by what it answers of a run with so many steps. It took these bytes
+-- of its input and left the rest, and wrote these, as is told of its input and its output before and behind
+-- it; and its answer, with these, shows what is meant on that input.
 pub record CallShows (meant : List ℕ → ℕ → Outcome) (ran : Ran) (steps : ℕ)
     (told left out out' : Option (List ℕ)) : Type 0 where
   pub taken : List ℕ

@@ -126,8 +126,8 @@ fn report_of(
     Ok(Report { ran, events: lines })
 }
 
-/// Runs code that is never stuck for at most so many steps, on an input and a sink, and tells the lines of its
-/// events where these are asked for.
+/// Runs code that is never stuck for at most so many steps, on an input and a sink, and tells the lines of
+/// its events where these are asked for.
 ///
 /// # Errors
 ///

@@ -35,8 +35,8 @@ pub fn lowered_programs_follow()
     ensures { LoweredProgramsFollow }
 {}
 
-/// A run of that code ends in step with what the program means from its entry, where that is never stuck: after as
-/// many steps as ticks or more, and at most eight times as many.
+/// A run of that code ends in step with what the program means from its entry, where that is never stuck:
+/// after as many steps as ticks or more, and at most eight times as many.
 pub fn lowered_programs_keep_step()
     ensures { LoweredProgramsKeepStep }
 {}
@@ -54,7 +54,8 @@ pub fn waiting_runs_show()
     ensures { WaitingRunsShow }
 {}
 
-/// A run of code is stuck only where what the program means is stuck within as many ticks as the run may make steps.
+/// A run of code is stuck only where what the program means is stuck within as many ticks as the run may
+/// make steps.
 pub fn stuck_runs_are_meant()
     ensures { StuckRunsAreMeant }
 {}

@@ -16,8 +16,8 @@ use au_base::{Entry, Memory, Sink, Source};
 use au_lowering::NotedProgram;
 use std::alloc::Global;
 
-/// Runs a program that is safe to run from the entry which is named by its module and its own name, for at most
-/// so many steps, on an input and a sink, and tells the lines of its events where these are asked for.
+/// Runs a program that is safe to run from the entry which is named by its module and its own name, for at
+/// most so many steps, on an input and a sink, and tells the lines of its events where these are asked for.
 ///
 /// # Errors
 ///
@@ -35,9 +35,12 @@ pub fn run_program<I: Source, O: Sink>(
     ensures ran { IfOk result (λ report. (noted : List NotedParts)
         × IsDerived (slots.modules program.now) noted
         × ProgramEnds (slots.modules program.now) noted entry.now.module entry.now.function life report.ran
-        report.events.items steps (I.left input.old) (I.left input.new) (O.written out.old) (O.written out.new)) }
-    ensures read { IfOk result (λ report. Rose (is_read_fault report.ran) (I.faults input.old) (I.faults input.new)) }
-    ensures written { IfOk result (λ report. Rose (is_write_fault report.ran) (O.faults out.old) (O.faults out.new)) }
+        report.events.items steps (I.left input.old) (I.left input.new) (O.written out.old)
+        (O.written out.new)) }
+    ensures read { IfOk result (λ report. Rose (is_read_fault report.ran) (I.faults input.old)
+        (I.faults input.new)) }
+    ensures written { IfOk result (λ report. Rose (is_write_fault report.ran) (O.faults out.old)
+        (O.faults out.new)) }
     ensures broken { OnErr result (
         IsIdle (I.left input.old) (I.left input.new) (O.written out.old) (O.written out.new)
         ⊎ ((noted : List NotedParts) × IsDerived (slots.modules program.now) noted

@@ -1,6 +1,7 @@
--- The judgement of statements that are run: the running types of the names that they declare, and what the meaning asks
--- of the tree and its notes.
-use Rattle.std.specs.Prelude.{◌≡◌, ◌⊎◌, ℕ, suc, ◌+◌, Bool, true, false, List, [], ◌∷◌, length, map, Option, Some}
+-- The judgement of statements that are run: the running types of the names that they declare, and what the
+-- meaning asks of the tree and its notes.
+use Rattle.std.specs.Prelude.{◌≡◌, ◌⊎◌, ℕ, suc, ◌+◌, Bool, true, false, List, [], ◌∷◌, length, map, Option}
+use Rattle.std.specs.Prelude.{Some}
 use Rattle.au_base.specs.declared.kinds.IntKind.{IntKind}
 use Rattle.au_running_types.specs.Running.{token}
 use Rattle.au_type_texts.specs.Types.{ClosedType}
@@ -52,8 +53,8 @@ abbrev pub Either : Bool → Type 0 → Type 0 → Type 0
 Either true A B = A
 Either false A B = B
 
--- what is told apart: a value of a type; or one behind a reference that writes or reads, in a region that may be used.
--- The fields of its case come as values of types that are made so of their own.
+-- what is told apart: a value of a type; or one behind a reference that writes or reads, in a region that
+-- may be used. The fields of its case come as values of types that are made so of their own.
 pub data Told : Type 0 where
   owned : Told
   to_write : (region : Region) → Told
@@ -69,8 +70,8 @@ AreTold active owned = Unit {0}
 AreTold active (to_write region) = InScope active region
 AreTold active (to_read region) = InScope active region
 
--- what is known of types, of whose they are, of notes, of what may be called, of the type that the body returns, and of
--- which of its names hold what may be dropped
+-- what is known of types, of whose they are, of notes, of what may be called, of the type that the body
+-- returns, and of which of its names hold what may be dropped
 module _ (types : Types) (owner : ClosedType → Option (List ℕ)) {I T C K : Type 0} (see : View I T C)
     (known : Callables I K) (result : Meaning) (loose : ℕ → Bool) where
   -- a whole expression is of a type, whichever new token it has: so `~` isn't in the type
@@ -93,7 +94,8 @@ module _ (types : Types) (owner : ClosedType → Option (List ℕ)) {I T C K : T
   AreFine number (t ∷ ts) = IsFine number t × AreFine (suc number) ts
 
   -- These fields, of values of such types, are bound each once, by names from one on, which have these types.
-  pub record AreBound (number : ℕ) (fields : List Field) (kinds : List Meaning) (binds : List (Bound Bytes)) : Type 0
+  pub record AreBound (number : ℕ) (fields : List Field) (kinds : List Meaning)
+    (binds : List (Bound Bytes)) : Type 0
     where
       pub many : length kinds ≡ length fields
       pub apart : AreApart (field_names fields)
@@ -102,9 +104,10 @@ module _ (types : Types) (owner : ClosedType → Option (List ℕ)) {I T C K : T
       pub are : AreTypesUnder (bound_fields binds) (field_names fields) kinds bound
       pub fine : AreFine number bound
 
-  -- A variable is lent, with whichever new token, which is active in the block that follows, and a name holds the
-  -- reference.
-  abbrev pub Lends : (ℕ → Bool) → ℕ → BorrowMode → Option Variable → Names → ((ℕ → Bool) → Names → Type 0) → Type 0
+  -- A variable is lent, with whichever new token, which is active in the block that follows, and a name
+  -- holds the reference.
+  abbrev pub Lends : (ℕ → Bool) → ℕ → BorrowMode → Option Variable → Names → ((ℕ → Bool) → Names → Type 0)
+    → Type 0
   Lends active number m x names Block =
       (z : ℕ) → active z ≡ false → (of : Meaning)
       × Borrows types owner see known names z active m x of × IsFine number of
@@ -123,13 +126,15 @@ module _ (types : Types) (owner : ClosedType → Option (List ℕ)) {I T C K : T
         × ((bound : AreBound number fields kinds binds) × Q (with_types number bound.bound names))
     Runs active number scope (assign at x fields e) Q names =
         (of : Meaning) × IsWholeOf active names scope e of
-        × LooksInto types owner see known names 0 active (variable_of scope x.name) (names_of fields) of × Q names
+        × LooksInto types owner see known names 0 active (variable_of scope x.name) (names_of fields) of
+        × Q names
     Runs active number scope (assign_through at r fields e) Q names =
         (of : Meaning) × (region : Region) × IsWholeOf active names scope e of × (types.is_free of ≡ true)
         × Reaches types owner see known names 0 active (variable_of scope r.name) (names_of fields) region of
         (λ u. IsNamed types owner see known names 0 active (variable_of scope r.name) (writes u region))
         × Q names
-    Runs active number scope (conditional at tests) Q names = RunsTests active number scope tests names × Q names
+    Runs active number scope (conditional at tests) Q names = RunsTests active number scope tests names
+      × Q names
     Runs active number scope (conditional_else at tests block) Q names =
         RunsTests active number scope tests names
         × RunsAll active (number + names_in_tests tests) scope block names × Q names
@@ -154,7 +159,8 @@ module _ (types : Types) (owner : ClosedType → Option (List ℕ)) {I T C K : T
         × Q names
     Runs active number scope (borrow_typed at r t m x block stop) Q names =
         Lends active number m (variable_of scope x.name) names
-        (λ more of. RunsAll more (number + 1) (with_reference m (variable_of scope x.name) number r.name scope) block
+        (λ more of. RunsAll more (number + 1)
+        (with_reference m (variable_of scope x.name) number r.name scope) block
         of)
         × Q names
     Runs active number scope (discard at e) Q names =
@@ -185,13 +191,14 @@ module _ (types : Types) (owner : ClosedType → Option (List ℕ)) {I T C K : T
         ((fields : List Field) × (fields_told see note tag ≡ Some fields)
         × ((bound : AreBound number fields kinds binds)
         × RunsAll active (number + length binds)
-        (with_bound (fields_told see note tag) number binds scope) block (with_types number bound.bound names)))
+        (with_bound (fields_told see note tag) number binds scope) block
+        (with_types number bound.bound names)))
         (RunsArms active (number + (length binds + names_in_block block)) scope note rest tag kinds names)
 
 -- ---- functions
 
--- A function may be run at a key: it has as many parameters, and its body runs, whichever tokens are active besides
--- those of the key, and returns on each way.
+-- A function may be run at a key: it has as many parameters, and its body runs, whichever tokens are active
+-- besides those of the key, and returns on each way.
 pub record MayRun (types : Types) (owner : ClosedType → Option (List ℕ)) {I T C K : Type 0}
     (known : Callables I K) (f : Function I T C) (key : K) : Type 0 where
   pub many : length f.parameters ≡ length (known.parameters key)
@@ -199,7 +206,8 @@ pub record MayRun (types : Types) (owner : ClosedType → Option (List ℕ)) {I 
   pub loose : ℕ → Bool
   pub fine : AreFine types owner f.view known (known.result key) loose f.first (known.parameters key)
   pub runs : (active : ℕ → Bool) → AreActive active (known.tokens key)
-      → RunsAll types owner f.view known (known.result key) loose active (f.first + length f.parameters) (scope_of f)
+      → RunsAll types owner f.view known (known.result key) loose active (f.first + length f.parameters)
+      (scope_of f)
       f.body (with_types f.first (known.parameters key) names)
   pub ahead : AheadAll f.view loose (f.first + length f.parameters) (scope_of f) [] f.body (λ h. ⊥)
       (put_each f.first (length f.parameters) ready (λ k. empty))

@@ -1,6 +1,7 @@
--- The judgement of an expression that is run: of which running type its value is, by what the meaning asks of the tree
--- and its notes, and nothing else.
-use Rattle.std.specs.Prelude.{◌≡◌, ◌⊎◌, ℕ, Bool, true, false, List, [], ◌∷◌, length, Option, Some, None, neg_ℤ}
+-- The judgement of an expression that is run: of which running type its value is, by what the meaning asks
+-- of the tree and its notes, and nothing else.
+use Rattle.std.specs.Prelude.{◌≡◌, ◌⊎◌, ℕ, Bool, true, false, List, [], ◌∷◌, length, Option, Some, None}
+use Rattle.std.specs.Prelude.{neg_ℤ}
 use Rattle.au_base.specs.declared.kinds.IntKind.{IntKind}
 use Rattle.au_ints.specs.declared.operations.Order.{Order}
 use Rattle.au_ints.specs.declared.operations.Order.TheVariants as order
@@ -17,7 +18,8 @@ use Rattle.au_syntax.specs.Expressions.{nil, path, arrow, call, named_call, pare
 use Rattle.au_syntax.specs.Expressions.{borrow, borrow_part, binary, negation, typed, choice, no_expressions}
 use Rattle.au_syntax.specs.Expressions.{expressions, no_arguments, arguments}
 use Rattle.au_syntax.specs.Plain.{Bytes}
-use Rattle.au_meaning.specs.Expressions.{Operation, alone, compared_kind, computes, compares, is_and, is_or, kind_in}
+use Rattle.au_meaning.specs.Expressions.{Operation, alone, compared_kind, computes, compares, is_and, is_or}
+use Rattle.au_meaning.specs.Expressions.{kind_in}
 use Rattle.au_meaning.specs.Expressions.{labels, names_of, note_of, operation_of}
 use Rattle.au_meaning.specs.Names.{Scope, Variable, path_numbers, target_behind, variable_of}
 use Rattle.au_meaning.specs.Views.{Act, Callee, View, invokes, makes, ships}
@@ -68,8 +70,8 @@ module _ (types : Types) (owner : ClosedType → Option (List ℕ)) {I T C K : T
   Joins is_and whole first A B kept t = (t ≡ type.truth) × A type.truth × B type.truth × kept
   Joins is_or whole first A B kept t = (t ≡ type.truth) × A type.truth × B type.truth × kept
 
-  -- These are the running types of names; this is the token of the whole expression; and these tokens are active, it
-  -- among them.
+  -- These are the running types of names; this is the token of the whole expression; and these tokens are
+  -- active, it among them.
   module _ (names : ℕ → Meaning) (here : ℕ) (active : ℕ → Bool) where
     -- a name alone: a variable, of whose type a copy is made only where it is Free; or a constant
     abbrev pub Mentions : Option Variable → T → Bytes → Meaning → Type 0
@@ -144,9 +146,11 @@ module _ (types : Types) (owner : ClosedType → Option (List ℕ)) {I T C K : T
       IsOf scope (borrow_part n r fields) t =
           (region : Region) × (part : Meaning) × (t ≡ reads part region)
           × Reaches (variable_of scope r.name) (names_of fields) region part
-          (λ of. IsNamed (variable_of scope r.name) (reads of region) × (types.is_free (reads of region) ≡ true))
+          (λ of. IsNamed (variable_of scope r.name) (reads of region)
+          × (types.is_free (reads of region) ≡ true))
       IsOf scope (binary n op a b) t =
-          Joins (operation_of op) n.note (note_of a) (IsOf scope a) (IsOf scope b) ((k : ℕ) → IsKept see k scope b)
+          Joins (operation_of op) n.note (note_of a) (IsOf scope a) (IsOf scope b)
+            ((k : ℕ) → IsKept see k scope b)
           t
       IsOf scope (negation n e) t = IsOf scope e type.truth × (t ≡ type.truth)
       IsOf scope (typed n e written) t = IsOf scope e t

@@ -1,5 +1,5 @@
--- What is known round a body that runs: which functions may be called at which running types, and which tokens are
--- active.
+-- What is known round a body that runs: which functions may be called at which running types, and which
+-- tokens are active.
 use Rattle.std.specs.Prelude.{◌≡◌, ◌⊎◌, ℕ, ◌==◌, Bool, true, List, [], ◌∷◌, if◌then◌else◌}
 use Rattle.au_types.specs.declared.types.Region.{Region}
 use Rattle.au_types.specs.declared.types.Region.TheVariants.{Static}

@@ -1,5 +1,5 @@
--- What is still to come of the names of a running frame: that each gets through the statements that lie ahead, from how
--- it stands now. By recursion on the tree, and no path stands in it.
+-- What is still to come of the names of a running frame: that each gets through the statements that lie
+-- ahead, from how it stands now. By recursion on the tree, and no path stands in it.
 use Rattle.std.specs.Prelude.{◌≡◌, ◌⊎◌, ℕ, zero, suc, ◌+◌, ◌<◌, ◌≤◌, ◌==◌, Bool, true, false, if◌then◌else◌}
 use Rattle.std.specs.Prelude.{List, [], ◌∷◌, length, Option, Some, None}
 use Rattle.au_ahead.specs.Ready.{Ready, Stand, away}
@@ -9,7 +9,8 @@ use Rattle.au_lending.specs.Laws.{also_watched}
 use Rattle.au_lives.specs.Mentions.{Counts, borrowed_by, one_look, one_write_borrow}
 use Rattle.au_memory.specs.Forests.{Hold, empty, ready, shut, watched}
 use Rattle.au_meaning.specs.Expressions.{note_of}
-use Rattle.au_meaning.specs.Names.{Scope, Variable, mode_of, names_in, names_in_block, names_in_tests, variable_of}
+use Rattle.au_meaning.specs.Names.{Scope, Variable, mode_of, names_in, names_in_block, names_in_tests}
+use Rattle.au_meaning.specs.Names.{variable_of}
 use Rattle.au_meaning.specs.Names.{with_bound, with_reference}
 use Rattle.au_meaning.specs.Statements.{after, fields_told, with_counter}
 use Rattle.au_meaning.specs.Views.{View}
@@ -98,8 +99,8 @@ module _ {I T C : Type 0} (see : View I T C) (loose : ℕ → Bool) where
       AreReady h (λ k. where_of k x (borrowed_by m))
       × ((z : ℕ) → IsNew z h → Q z (put number ready (lending m z x h)))
 
-  -- Each name of the frame gets through, where the names from this one on are empty, and these are the tokens of the
-  -- borrow statements that are open in the frame, the newest first.
+  -- Each name of the frame gets through, where the names from this one on are empty, and these are the
+  -- tokens of the borrow statements that are open in the frame, the newest first.
   abbrev mutual
     -- through a statement; where it falls through, Q holds of how the names stand then
     pub Ahead : ℕ → Scope → List ℕ → Statement Bytes T C → (Standing → Type 0) → Standing → Type 0
@@ -147,7 +148,8 @@ module _ {I T C : Type 0} (see : View I T C) (loose : ℕ → Bool) where
         (λ g. AheadAll (number + names_in s) (after see number s scope) zs rest Q g) h
 
     -- through the branches of a conditional, where `other` holds if no test is true
-    pub AheadTests : ℕ → Scope → List ℕ → Branches Bytes T C → (Standing → Type 0) → (Standing → Type 0) → Standing
+    pub AheadTests : ℕ → Scope → List ℕ → Branches Bytes T C → (Standing → Type 0) → (Standing → Type 0)
+        → Standing
         → Type 0
     AheadTests number scope zs no_branches other Q h = other h
     AheadTests number scope zs (branches e block rest) other Q h =

@@ -1,4 +1,5 @@
--- The types of arguments in the order of parameters, and those of fields in the order in which they are bound: by names.
+-- The types of arguments in the order of parameters, and those of fields in the order in which they are
+-- bound: by names.
 use Rattle.std.specs.Prelude.{◌≡◌, ◌⊎◌, List, [], ◌∷◌}
 use Rattle.au_types.specs.Types.{Meaning}
 use Rattle.au_syntax.specs.Plain.{Bytes}

@@ -29,8 +29,8 @@ module _ (types : Types) (owner : ClosedType → Option (List ℕ)) (active : �
   abbrev pub TakesReader : Meaning → List Meaning → List Meaning → Type 0
   TakesReader of rest kinds = (region : Region) × InScope active region × (kinds ≡ reads of region ∷ rest)
 
-  -- By the call and the type of what is born, if it is a birth: these may be the types of its arguments, where this is
-  -- that of its value.
+  -- By the call and the type of what is born, if it is a birth: these may be the types of its arguments,
+  -- where this is that of its value.
   abbrev pub Ships : ShippedCall → Option ClosedType → List Meaning → Meaning → Type 0
   Ships prim.PrintText born kinds t = (born ≡ None) × Prints type.text kinds t
   Ships prim.PrintInt born kinds t = (born ≡ None) × ((kind : IntKind) × Prints (integer kind) kinds t)
@@ -59,7 +59,8 @@ module _ (types : Types) (owner : ClosedType → Option (List ℕ)) (active : �
   Ships prim.MakeEmpty born kinds t =
       (of : Meaning) × (types.buffered t ≡ Some of) × (kinds ≡ []) × IsBorn born (codes "Standard.Buffer")
   Ships prim.DestroyEmpty born kinds t =
-      (of item : Meaning) × (born ≡ None) × (types.buffered of ≡ Some item) × (kinds ≡ of ∷ []) × (t ≡ type.unit)
+      (of item : Meaning) × (born ≡ None) × (types.buffered of ≡ Some item) × (kinds ≡ of ∷ [])
+      × (t ≡ type.unit)
   Ships prim.Length born kinds t =
       (of item : Meaning) × (born ≡ None) × (types.buffered of ≡ Some item) × TakesReader of [] kinds
       × (t ≡ integer Index)
@@ -72,7 +73,8 @@ module _ (types : Types) (owner : ClosedType → Option (List ℕ)) (active : �
       (of : Meaning) × (born ≡ None) × (types.buffered of ≡ Some t) × (types.is_free t ≡ true)
       × TakesReader of (integer Index ∷ []) kinds
   Ships prim.ReplaceNth born kinds t =
-      (of : Meaning) × (born ≡ None) × (types.buffered of ≡ Some t) × TakesWriter of (integer Index ∷ t ∷ []) kinds
+      (of : Meaning) × (born ≡ None) × (types.buffered of ≡ Some t)
+      × TakesWriter of (integer Index ∷ t ∷ []) kinds
   Ships prim.AcquireTerminal born kinds t =
       (of : Meaning) × (types.is_root of ≡ true) × (types.is_terminal t ≡ true) × TakesWriter of [] kinds
       × IsBorn born (codes "Standard.IO.Terminal")
@@ -80,7 +82,8 @@ module _ (types : Types) (owner : ClosedType → Option (List ℕ)) (active : �
       (of : Meaning) × (born ≡ None) × (types.is_terminal of ≡ true) × TakesWriter of [] kinds
       × IsOptionOf types t (integer Nat8)
   Ships prim.WriteByte born kinds t =
-      (of : Meaning) × (born ≡ None) × (types.is_terminal of ≡ true) × TakesWriter of (integer Nat8 ∷ []) kinds
+      (of : Meaning) × (born ≡ None) × (types.is_terminal of ≡ true)
+      × TakesWriter of (integer Nat8 ∷ []) kinds
       × (t ≡ type.unit)
   Ships prim.ReleaseTerminal born kinds t =
       (of : Meaning) × (born ≡ None) × (types.is_terminal of ≡ true) × (kinds ≡ of ∷ []) × (t ≡ type.unit)

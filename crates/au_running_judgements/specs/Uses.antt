@@ -1,5 +1,5 @@
--- How often the variable of a number is still to be met in an expression that is run, and how. Where its note says that
--- a mention is of a Free type, the variable is looked at, and else consumed.
+-- How often the variable of a number is still to be met in an expression that is run, and how. Where its
+-- note says that a mention is of a Free type, the variable is looked at, and else consumed.
 use Rattle.std.specs.Prelude.{◌≡◌, ℕ, ◌==◌, Bool, true, false, [], ◌∷◌, if◌then◌else◌, Option, Some, None}
 use Rattle.au_lives.specs.Mentions.{Counts, borrowed_by, one_consumption, one_look, plus, unmentioned}
 use Rattle.au_meaning.specs.Expressions.{alone}

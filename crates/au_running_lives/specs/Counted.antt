@@ -1,4 +1,5 @@
--- How often a variable is met, by its name in the tree that was written, and by its number in the tree that is run.
+-- How often a variable is met, by its name in the tree that was written, and by its number in the tree that
+-- is run.
 use Rattle.std.specs.Prelude.{◌≡◌, ℕ, Bool, true, [], ◌∷◌, Some}
 use Rattle.std.specs.Str.{bytes_eq}
 use Rattle.au_lives.specs.Mentions.{Counts, counts_in}
@@ -51,5 +52,6 @@ module _ {I T C : Type 0} (see : View I T C) (x : Bytes) (free : Bool) where
   -- A variable is met as often by its number as by its name.
   abbrev pub CountsAgree : Type 0
   CountsAgree =
-      (scope : Scope) (v : Variable) (e : Expression Bytes T C) → variable_of scope x ≡ Some v → AreOneToOne scope
+      (scope : Scope) (v : Variable) (e : Expression Bytes T C) → variable_of scope x ≡ Some v
+      → AreOneToOne scope
       → SaysFree e → uses see v.number scope e ≡ counts_in x free (plain_expression (λ (b : Bytes). b) e)

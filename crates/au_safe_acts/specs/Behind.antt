@@ -16,13 +16,15 @@ use Rattle.au_meaning.specs.Worlds.{Value, World}
 use Rattle.au_sound_calls.specs.Sound.{AreTyped}
 use Rattle.au_safe_acts.specs.Good.{Good, IsIn, IsRunning}
 
-module _ (types : Types) (owner : ClosedType → Option (List ℕ)) (acts : List Act) (f : Frame) (fs : List Frame)
+module _ (types : Types) (owner : ClosedType → Option (List ℕ)) (acts : List Act) (f : Frame)
+    (fs : List Frame)
     (sizes : List ℕ) (size : ℕ) (under : Made) (w : World) (ticks : ℕ) where
   -- `r->f`, where the name holds a write reference, and where it holds one that reads
   abbrev pub WritersReadWell : Type 0
   WritersReadWell =
       AreTyped types → IsRunning sizes fs size → (x : ℕ) (path : List ℕ) (t u : Meaning) (z : ℕ)
-      → IsReadable (f.hold x) → f.type x ≡ writes t (token z) → is_active acts z ≡ true → LeadsOn types t path u
+      → IsReadable (f.hold x) → f.type x ≡ writes t (token z) → is_active acts z ≡ true
+      → LeadsOn types t path u
       → types.is_free u ≡ true → IsIn types owner acts (f ∷ fs) sizes under w
       → Good owner (λ (v : Value) n. IsIn types owner acts (f ∷ fs) sizes ((v, u) ∷ under) n)
       (follows (refers x path w ticks) meaning.reads)
@@ -40,7 +42,8 @@ module _ (types : Types) (owner : ClosedType → Option (List ℕ)) (acts : List
   abbrev pub WritersPutWell : Type 0
   WritersPutWell =
       AreTyped types → IsRunning sizes fs size → (x : ℕ) (path : List ℕ) (v : Value) (t u : Meaning) (z : ℕ)
-      → IsReadable (f.hold x) → f.type x ≡ writes t (token z) → is_active acts z ≡ true → LeadsOn types t path u
+      → IsReadable (f.hold x) → f.type x ≡ writes t (token z) → is_active acts z ≡ true
+      → LeadsOn types t path u
       → types.is_free u ≡ true → IsIn types owner acts (f ∷ fs) sizes ((v, u) ∷ under) w
       → Good owner (λ (old : Value) n. IsIn types owner acts (f ∷ fs) sizes under n)
       (follows (refers x path w ticks) (λ one. puts one v))

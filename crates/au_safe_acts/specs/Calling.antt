@@ -20,7 +20,8 @@ module _ (types : Types) (owner : ClosedType → Option (List ℕ)) (acts : List
   abbrev pub ComesSafely : Type 0
   ComesSafely =
       (t : Meaning) (result : Result (List ℕ))
-      → ComesWell ClosedType types owner acts (hold_at fs) (type_at fs) under (lying_in w) sizes w.store t result
+      → ComesWell ClosedType types owner acts (hold_at fs) (type_at fs) under
+      (lying_in w) sizes w.store t result
       → Good owner (λ (v : Value) n. IsIn types owner acts fs sizes ((v, t) ∷ under) n) (comes result w ticks)
 
   -- So is a shipped call that goes well.
@@ -28,4 +29,5 @@ module _ (types : Types) (owner : ClosedType → Option (List ℕ)) (acts : List
   GoesSafely =
       (t : Meaning) (answer : Answer (List ℕ) ClosedType)
       → GoesWell types owner acts (hold_at fs) (type_at fs) t under (lying_in w) sizes answer
-      → Good owner (λ (v : Value) n. IsIn types owner acts fs sizes ((v, t) ∷ under) n) (answered answer w ticks)
+      → Good owner (λ (v : Value) n. IsIn types owner acts fs sizes ((v, t) ∷ under) n)
+      (answered answer w ticks)

@@ -34,7 +34,8 @@ pub record IsRunning (sizes : List ℕ) (fs : List Frame) (size : ℕ) : Type 0 
   pub room : size ≤ names
 
 -- A world is as it should be: its store is, where names stand as these frames say, which have so many names.
-abbrev pub IsIn : Types → (ClosedType → Option (List ℕ)) → List Act → List Frame → List ℕ → Made → World → Type 0
+abbrev pub IsIn : Types → (ClosedType → Option (List ℕ)) → List Act → List Frame → List ℕ → Made → World
+  → Type 0
 IsIn types owner acts fs sizes under w =
     IsSound types owner acts (hold_at fs) (type_at fs) under (lying_in w) sizes w.store
 
@@ -46,8 +47,8 @@ IsOrderly owner w = AtMostOnce w.store.deeds × Inside w.store.deeds × OwnMade 
 abbrev pub IsCutWell : (ClosedType → Option (List ℕ)) → World → Type 0
 IsCutWell owner w = IsOrderly owner w × IsExclusive w
 
--- An action comes to something good: what it gives and the world that it leaves are so; or it aborts in a world that was
--- told well, or is cut in one that is as it should be. There is a rule for it.
+-- An action comes to something good: what it gives and the world that it leaves are so; or it aborts in a
+-- world that was told well, or is cut in one that is as it should be. There is a rule for it.
 abbrev pub Good : {A : Type 0} → (ClosedType → Option (List ℕ)) → (A → World → Type 0) → Out A → Type 0
 Good owner q (gives a w left) = q a w
 Good owner q (aborts fault w left) = IsOrderly owner w

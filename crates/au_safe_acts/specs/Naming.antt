@@ -14,7 +14,8 @@ use Rattle.au_meaning.specs.Acts.{holds, looks, moves, sets}
 use Rattle.au_meaning.specs.Worlds.{Value, World}
 use Rattle.au_safe_acts.specs.Good.{Good, IsIn, IsRunning}
 
-module _ (types : Types) (owner : ClosedType → Option (List ℕ)) (acts : List Act) (f : Frame) (fs : List Frame)
+module _ (types : Types) (owner : ClosedType → Option (List ℕ)) (acts : List Act) (f : Frame)
+    (fs : List Frame)
     (sizes : List ℕ) (size : ℕ) (under : Made) (w : World) (ticks : ℕ) where
   -- A part of Free type of a name that may be looked at is copied.
   abbrev pub LooksWell : Type 0
@@ -22,7 +23,8 @@ module _ (types : Types) (owner : ClosedType → Option (List ℕ)) (acts : List
       AreDeclared types → CasesAreAlone types → AreLawful types → IsRunning sizes fs size
       → (x : ℕ) (path : List ℕ) (u : Meaning) → IsReadable (f.hold x) → LeadsOn types (f.type x) path u
       → types.is_free u ≡ true → IsIn types owner acts (f ∷ fs) sizes under w
-      → Good owner (λ (v : Value) n. IsIn types owner acts (f ∷ fs) sizes ((v, u) ∷ under) n) (looks x path w ticks)
+      → Good owner (λ (v : Value) n. IsIn types owner acts (f ∷ fs) sizes ((v, u) ∷ under) n)
+      (looks x path w ticks)
 
   -- What a name that is ready holds is moved out of it.
   abbrev pub MovesWell : Type 0
@@ -37,7 +39,8 @@ module _ (types : Types) (owner : ClosedType → Option (List ℕ)) (acts : List
   HoldsWell =
       IsRunning sizes fs size → (x : ℕ) (v : Value) (t : Meaning) → x < size → f.hold x ≡ empty
       → IsIn types owner acts (f ∷ fs) sizes ((v, t) ∷ under) w
-      → Good owner (λ (a : Unit {0}) n. IsIn types owner acts (filled x t f ∷ fs) sizes under n) (holds x v w ticks)
+      → Good owner (λ (a : Unit {0}) n. IsIn types owner acts (filled x t f ∷ fs) sizes under n)
+      (holds x v w ticks)
 
   -- A part of Free type of a name that is ready gives way to the newest value.
   abbrev pub SetsWell : Type 0

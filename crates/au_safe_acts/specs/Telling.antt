@@ -16,7 +16,8 @@ use Rattle.au_safe_acts.specs.Making.{values_of}
 
 module _ (types : Types) (owner : ClosedType → Option (List ℕ)) (acts : List Act) (fs : List Frame)
     (sizes : List ℕ) (under : Made) where
-  -- What is told apart has the case of a number, with fields of these types, of which such parts are under way.
+  -- What is told apart has the case of a number, with fields of these types, of which such parts are under
+  -- way.
   abbrev pub HasTold : Types → Meaning → (Meaning → Meaning) → ℕ × List Value → World → Type 0
   HasTold known t through p n =
       (kinds : List Meaning) × (parts : Made) × (known.fields t p.0 ≡ Some kinds) × (p.1 ≡ values_of parts)
@@ -25,18 +26,21 @@ module _ (types : Types) (owner : ClosedType → Option (List ℕ)) (acts : List
   module _ (w : World) (ticks : ℕ) where
     abbrev pub TellsValuesWell : Type 0
     TellsValuesWell =
-        AreTyped types → (v : Value) (t : Meaning) (tag : ℕ) (of : List Meaning) → types.fields t tag ≡ Some of
+        AreTyped types → (v : Value) (t : Meaning) (tag : ℕ) (of : List Meaning)
+          → types.fields t tag ≡ Some of
         → IsIn types owner acts fs sizes ((v, t) ∷ under) w
         → Good owner (HasTold types t (λ u. u)) (tells_apart v w ticks)
 
     abbrev pub TellsWritersWell : Type 0
     TellsWritersWell =
-        AreTyped types → (r : Value) (t : Meaning) (z tag : ℕ) (of : List Meaning) → types.fields t tag ≡ Some of
+        AreTyped types → (r : Value) (t : Meaning) (z tag : ℕ) (of : List Meaning)
+          → types.fields t tag ≡ Some of
         → is_active acts z ≡ true → IsIn types owner acts fs sizes ((r, writes t (token z)) ∷ under) w
         → Good owner (HasTold types t (λ u. writes u (token z))) (tells_apart r w ticks)
 
     abbrev pub TellsReadersWell : Type 0
     TellsReadersWell =
-        AreTyped types → (r : Value) (t : Meaning) (z tag : ℕ) (of : List Meaning) → types.fields t tag ≡ Some of
+        AreTyped types → (r : Value) (t : Meaning) (z tag : ℕ) (of : List Meaning)
+          → types.fields t tag ≡ Some of
         → is_active acts z ≡ true → IsIn types owner acts fs sizes ((r, reads t (token z)) ∷ under) w
         → Good owner (HasTold types t (λ u. reads u (token z))) (tells_apart r w ticks)

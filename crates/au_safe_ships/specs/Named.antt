@@ -1,5 +1,5 @@
--- There are no references of the region `Static`, names that are empty have whichever type, and a name with a write
--- reference is looked at for `!`.
+-- There are no references of the region `Static`, names that are empty have whichever type, and a name with
+-- a write reference is looked at for `!`.
 use Rattle.std.specs.Prelude.{◌≡◌, ◌⊎◌, ℕ, true, List, [], ◌∷◌, Option}
 use Rattle.au_effects.specs.References.{reference_in}
 use Rattle.au_running_types.specs.Running.{token}
@@ -33,12 +33,14 @@ module _ (types : Types) (owner : ClosedType → Option (List ℕ)) (acts : List
       → IsIn types owner acts (record { hold = hold; type = names } ∷ fs) sizes under w
       → IsIn types owner acts (record { hold = hold; type = others } ∷ fs) sizes under w
 
-module _ (types : Types) (owner : ClosedType → Option (List ℕ)) (acts : List Act) (f : Frame) (fs : List Frame)
+module _ (types : Types) (owner : ClosedType → Option (List ℕ)) (acts : List Act) (f : Frame)
+    (fs : List Frame)
     (sizes : List ℕ) (size : ℕ) (under : Made) (w : World) where
   abbrev pub NoNamedStatics : Type 0
   NoNamedStatics =
       AreTyped types → (x : ℕ) (of : Meaning) → IsReadable (f.hold x)
-      → (f.type x ≡ writes of Static) ⊎ (f.type x ≡ reads of Static) → IsIn types owner acts (f ∷ fs) sizes under w
+      → (f.type x ≡ writes of Static) ⊎ (f.type x ≡ reads of Static)
+      → IsIn types owner acts (f ∷ fs) sizes under w
       → ⊥
 
   -- `!x`, where the name holds a write reference: it is looked at, and then what stands behind it is copied.

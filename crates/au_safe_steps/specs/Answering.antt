@@ -20,7 +20,8 @@ module _ (types : Types) (owner : ClosedType → Option (List ℕ)) (acts : List
   AnswersWell =
       (t : Meaning) (args : List Value) (answer : Answer (List ℕ) ClosedType)
       → GoesWell types owner acts (hold_at fs) (type_at fs) t under (lying_in w) sizes answer
-      → Good owner (λ (v : Value) n. IsIn types owner acts fs sizes ((v, t) ∷ under) n) (told args answer w ticks)
+      → Good owner (λ (v : Value) n. IsIn types owner acts fs sizes ((v, t) ∷ under) n)
+      (told args answer w ticks)
 
   -- one that waits, and goes well whichever byte comes
   abbrev pub HearsWell : Type 0
@@ -28,4 +29,5 @@ module _ (types : Types) (owner : ClosedType → Option (List ℕ)) (acts : List
       (t : Meaning) (args : List Value)
       → ((byte : Option ℕ) → GoesWell types owner acts (hold_at fs) (type_at fs) t under (lying_in w) sizes
       (of_one (byte_read byte w.store) args))
-      → Good owner (λ (v : Value) n. IsIn types owner acts fs sizes ((v, t) ∷ under) n) (told args waits w ticks)
+      → Good owner (λ (v : Value) n. IsIn types owner acts fs sizes ((v, t) ∷ under) n)
+      (told args waits w ticks)

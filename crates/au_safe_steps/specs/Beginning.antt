@@ -20,7 +20,8 @@ StartsWell =
     (types : Types) (owner : ClosedType → Option (List ℕ)) (input : List ℕ)
     → IsIn types owner [] [] [] [] (first_world input)
 
--- A type of exits: a success is of case 0, and a failure of case 1, both without fields, and there is no other.
+-- A type of exits: a success is of case 0, and a failure of case 1, both without fields, and there is no
+-- other.
 pub record IsExitOf (types : Types) (t : Meaning) : Type 0 where
   pub free : types.is_free t ≡ true
   pub success : types.fields t 0 ≡ Some []
@@ -29,8 +30,8 @@ pub record IsExitOf (types : Types) (t : Meaning) : Type 0 where
 
 module _ (types : Types) (owner : ClosedType → Option (List ℕ)) (acts : List Act) (fs : List Frame)
     (sizes : List ℕ) (under : Made) (w : World) where
-  -- As many borrows are counted as lie open; and where the newest token ends, those are left that lay open when it
-  -- began.
+  -- As many borrows are counted as lie open; and where the newest token ends, those are left that lay open
+  -- when it began.
   abbrev pub CountsLying : Type 0
   CountsLying =
       (length w.borrows ≡ length (lying_in w))
@@ -51,8 +52,8 @@ module _ (types : Types) (owner : ClosedType → Option (List ℕ)) (acts : List
       → IsIn types owner acts fs sizes ((v, t) ∷ under) w
       → (b : Bool) × (exit_in v ≡ exit b) × IsIn types owner acts fs sizes under w
 
--- Where no token is active, no frame is left and no value under way, each birth was consumed; and each borrow was
--- closed, where none lies open.
+-- Where no token is active, no frame is left and no value under way, each birth was consumed; and each
+-- borrow was closed, where none lies open.
 abbrev pub FinishesWell : Type 0
 FinishesWell =
     (types : Types) (owner : ClosedType → Option (List ℕ)) (sizes : List ℕ) (w : World)

@@ -35,8 +35,8 @@ field_names fields = map (λ (one : Field). one.name) fields
 abbrev pub bound_fields : List (Bound Bytes) → List Bytes
 bound_fields binds = map (λ (one : Bound Bytes). one.name.name.name) binds
 
--- Where the names that are bound are those of the fields, in whatever order, and no two fields have one name, the
--- values that are bound are those of the fields in the order of the names that are bound.
+-- Where the names that are bound are those of the fields, in whatever order, and no two fields have one
+-- name, the values that are bound are those of the fields in the order of the names that are bound.
 abbrev pub FieldsAreBound : Type 0
 FieldsAreBound =
     (fields : List Field) (parts : Made) (binds : List (Bound Bytes)) → length parts ≡ length fields

@@ -48,7 +48,8 @@ module _ (types : Types) (owner : ClosedType → Option (List ℕ)) (acts : List
   -- The newest value is of a type whose values hold nothing, and it is dropped.
   abbrev pub PlainsDropWell : Type 0
   PlainsDropWell =
-      AreTyped types → (v : Value) (t : Meaning) → IsBasic t → IsIn types owner acts fs sizes ((v, t) ∷ under) w
+      AreTyped types → (v : Value) (t : Meaning) → IsBasic t
+        → IsIn types owner acts fs sizes ((v, t) ∷ under) w
       → IsPlain v t × IsIn types owner acts fs sizes under w
 
   -- A truth value, and two numbers of one kind, are such.

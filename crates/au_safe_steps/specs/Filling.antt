@@ -21,7 +21,8 @@ abbrev pub emptied_from : ℕ → ℕ → Frame → Frame
 emptied_from first zero f = f
 emptied_from first (suc count) f = emptied_from (suc first) count (standing first empty f)
 
-module _ (types : Types) (owner : ClosedType → Option (List ℕ)) (acts : List Act) (f : Frame) (fs : List Frame)
+module _ (types : Types) (owner : ClosedType → Option (List ℕ)) (acts : List Act) (f : Frame)
+    (fs : List Frame)
     (sizes : List ℕ) (size : ℕ) (under : Made) (w : World) where
   -- Names from one on, which are empty, take the newest values in order.
   abbrev pub FillsWell : Type 0

@@ -1,4 +1,5 @@
--- Many tokens end at once, as a return asks it; frames that wait for none of them stay; and a new frame has room.
+-- Many tokens end at once, as a return asks it; frames that wait for none of them stay; and a new frame has
+-- room.
 use Rattle.std.specs.Prelude.{◌≡◌, ℕ, ◌+◌, List, [], ◌∷◌, ◌++◌, length, take, Option}
 use Rattle.au_type_texts.specs.Types.{ClosedType}
 use Rattle.au_memory.specs.Forests.{Hold, IsAmong, Made, empty, ready, shut, watched}
@@ -18,8 +19,8 @@ abbrev pub freed_of : List Act → List Frame → List Frame
 freed_of [] fs = fs
 freed_of (a ∷ rest) fs = freed_of rest (freed_frames a.token fs)
 
--- Where borrows are closed until as many are left as lay open when a token began, this one ends and all that are
--- newer.
+-- Where borrows are closed until as many are left as lay open when a token began, this one ends and all
+-- that are newer.
 abbrev pub TokensEndTo : Type 0
 TokensEndTo =
     (types : Types) (owner : ClosedType → Option (List ℕ)) (newest : List Act) (a : Act) (older : List Act)
@@ -30,7 +31,8 @@ TokensEndTo =
 
 -- ---- frames
 
--- A name doesn't wait for a token: it isn't shut for it, nor watched for it, but for others of which there is one.
+-- A name doesn't wait for a token: it isn't shut for it, nor watched for it, but for others of which there
+-- is one.
 abbrev pub IsClear : ℕ → Hold → Type 0
 IsClear z empty = Unit {0}
 IsClear z ready = Unit {0}
@@ -47,7 +49,8 @@ AreClear z (f ∷ fs) = ((x : ℕ) → IsClear z (f.hold x)) × AreClear z fs
 abbrev pub OthersStay : Type 0
 OthersStay = (z : ℕ) (fs : List Frame) → AreClear z fs → freed_frames z fs ≡ fs
 
--- A frame that begins is the running one, and has room for its names; without it there are the sizes from before.
+-- A frame that begins is the running one, and has room for its names; without it there are the sizes from
+-- before.
 abbrev pub FramesHaveRoom : Type 0
 FramesHaveRoom =
     (sizes : List ℕ) (fs : List Frame) (first others : ℕ) (values : Made) → length sizes ≡ length fs

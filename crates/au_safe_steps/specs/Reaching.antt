@@ -27,7 +27,8 @@ module _ (types : Types) (owner : ClosedType → Option (List ℕ)) (acts : List
       → Good owner (λ (v : Value) n. IsIn types owner acts fs sizes ((v, t) ∷ under) n)
       (needing (reference_in r) meaning.reads w ticks)
 
-module _ (types : Types) (owner : ClosedType → Option (List ℕ)) (acts : List Act) (f : Frame) (fs : List Frame)
+module _ (types : Types) (owner : ClosedType → Option (List ℕ)) (acts : List Act) (f : Frame)
+    (fs : List Frame)
     (sizes : List ℕ) (size : ℕ) (under : Made) (w : World) (ticks : ℕ) where
   -- `&(r->f)`, where the name holds a read reference
   abbrev pub RefersWell : Type 0
@@ -42,7 +43,8 @@ module _ (types : Types) (owner : ClosedType → Option (List ℕ)) (acts : List
   abbrev pub OperandsCopyWell : Type 0
   OperandsCopyWell =
       AreTyped types → IsRunning sizes fs size → (x : ℕ) (t : Meaning) (z : ℕ)
-      → IsReadable (f.hold x) → f.type x ≡ writes t (token z) → types.is_free t ≡ true → is_active acts z ≡ true
+      → IsReadable (f.hold x) → f.type x ≡ writes t (token z) → types.is_free t ≡ true
+      → is_active acts z ≡ true
       → IsIn types owner acts (f ∷ fs) sizes under w
       → (r : Value) × (looks x [] w ticks ≡ gives r w ticks)
       × ((later : ℕ) → Good owner (λ (v : Value) n. IsIn types owner acts (f ∷ fs) sizes ((v, t) ∷ under) n)

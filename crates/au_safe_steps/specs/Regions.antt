@@ -20,7 +20,8 @@ IsToken region = (z : ℕ) × (region ≡ token z)
 -- So is that of a reference under way, below whichever other values.
 abbrev pub ReferencesHaveTokens : Type 0
 ReferencesHaveTokens =
-    (types : Types) (owner : ClosedType → Option (List ℕ)) (acts : List Act) (fs : List Frame) (sizes : List ℕ)
+    (types : Types) (owner : ClosedType → Option (List ℕ)) (acts : List Act) (fs : List Frame)
+    (sizes : List ℕ)
     (newer under : Made) (w : World) → AreTyped types → (v : Value) (t : Meaning) (region : Region)
     → (IsIn types owner acts fs sizes (newer ++ (v, reads t region) ∷ under) w → IsToken region)
     × (IsIn types owner acts fs sizes (newer ++ (v, writes t region) ∷ under) w → IsToken region)

@@ -32,10 +32,10 @@ pub record RunsAreSafe (types : Types) (owner : ClosedType → Option (List ℕ)
   pub starts : StartsWell
   pub finishes : FinishesWell
 
--- What is seen of a run is as it should be, by how it ended: it isn't stuck; each birth is told once and consumed at most
--- once, and exactly once where it exits, and then each borrow was closed; each use of a borrow stands inside it; and
--- what is born of a type that has an owner is born there. Where a run is cut off, before whichever of its ticks, borrows
--- are exclusive.
+-- What is seen of a run is as it should be, by how it ended: it isn't stuck; each birth is told once and
+-- consumed at most once, and exactly once where it exits, and then each borrow was closed; each use of a
+-- borrow stands inside it; and what is born of a type that has an owner is born there. Where a run is cut
+-- off, before whichever of its ticks, borrows are exclusive.
 abbrev pub EndsWell : World → Ending → Type 0
 EndsWell w (exit b) = Once w.store.deeds × AllClosed w.store.deeds
 EndsWell w (abort fault) = Unit {0}
@@ -55,14 +55,15 @@ TakesRoot types owner (t ∷ []) (p ∷ []) =
     (types.is_root t ≡ true) × IsHomeOf owner p.of (codes "Austral.Pervasive")
 TakesRoot types owner ts ps = ⊥
 
-pub record IsEntry (types : Types) (owner : ClosedType → Option (List ℕ)) {I T C K : Type 0} (known : Callables I K)
+pub record IsEntry (types : Types) (owner : ClosedType → Option (List ℕ)) {I T C K : Type 0}
+    (known : Callables I K)
     (functions : I → Option (Function I T C)) (key : K) : Type 0 where
   pub takes : TakesRoot types owner (known.parameters key) (parameters_of (functions (known.of key)))
   pub gives : IsExitOf types (known.result key)
   pub open_none : known.tokens key ≡ []
 
--- Where each function may be run at each key, every run from an entry is seen well, whatever the input and however many
--- ticks there are.
+-- Where each function may be run at each key, every run from an entry is seen well, whatever the input and
+-- however many ticks there are.
 abbrev pub RunsWell : (types : Types) → (ClosedType → Option (List ℕ)) → {I T C K : Type 0} → Callables I K
     → (I → Option (Function I T C)) → Type 0
 RunsWell types owner {I} {T} {C} {K} known functions =

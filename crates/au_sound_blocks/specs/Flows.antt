@@ -17,18 +17,20 @@ use Rattle.au_sound_expressions.specs.Safe.{Waits, frame}
 abbrev pub tokens : List Act → List ℕ
 tokens own = map (λ (a : Act). a.token) own
 
--- These borrows lay open when the oldest of a frame's own tokens began; or they lie open now, where it has none.
+-- These borrows lay open when the oldest of a frame's own tokens began; or they lie open now, where it has
+-- none.
 abbrev pub IsBottom : List Act → (lying base : Lying) → Type 0
 IsBottom [] lying base = lying ≡ base
 IsBottom (a ∷ own) lying base = IsBottom own a.base base
 
--- which of the frame's names hold what may be dropped, the type that its body returns, the tokens that were active when
--- it began and the borrows that lay open then, the frames below, and how many names it has
+-- which of the frame's names hold what may be dropped, the type that its body returns, the tokens that were
+-- active when it began and the borrows that lay open then, the frames below, and how many names it has
 module _ (types : Types) (owner : ClosedType → Option (List ℕ)) (loose : ℕ → Bool) (result : Meaning)
     (below : List Act) (base : Lying) (fs : List Frame) (sizes : List ℕ) (size : ℕ) where
-  -- The frame goes on with tokens of its own: its names from a number on are empty, each waits for tokens that are active,
-  -- and what may be dropped is of a type of which that holds.
-  pub record Going (own : List Act) (number : ℕ) (hold : Standing) (names : Names) (under : Made) (w : World) : Type 0
+  -- The frame goes on with tokens of its own: its names from a number on are empty, each waits for tokens
+  -- that are active, and what may be dropped is of a type of which that holds.
+  pub record Going (own : List Act) (number : ℕ) (hold : Standing) (names : Names) (under : Made)
+      (w : World) : Type 0
     where
       pub waits : (k : ℕ) → Waits (is_active (own ++ below)) (hold k)
       pub clear : (k : ℕ) → number ≤ k → hold k ≡ empty
@@ -36,9 +38,10 @@ module _ (types : Types) (owner : ClosedType → Option (List ℕ)) (loose : ℕ
       pub bottom : IsBottom own (lying_in w) base
       pub state : IsIn types owner (own ++ below) (frame hold names ∷ fs) sizes under w
 
-  -- A statement fell through: names below a number have the types that they had, those from another on are empty, and
-  -- this holds of how names stand and of their types.
-  pub record Fell (own : List Act) (kept next : ℕ) (before : Names) (A : Standing → Type 0) (R : Names → Type 0)
+  -- A statement fell through: names below a number have the types that they had, those from another on are
+  -- empty, and this holds of how names stand and of their types.
+  pub record Fell (own : List Act) (kept next : ℕ) (before : Names) (A : Standing → Type 0) (R : Names
+      → Type 0)
       (under : Made) (w : World) : Type 0 where
     pub hold : Standing
     pub names : Names
@@ -56,7 +59,8 @@ module _ (types : Types) (owner : ClosedType → Option (List ℕ)) (loose : ℕ
     pub over : (k : ℕ) → IsOver (loose k) (freed_each (tokens (newest ∷ own)) (hold k))
     pub going : Going (newest ∷ own) size hold names ((v, result) ∷ under) w
 
-  abbrev pub Flows : List Act → (kept next : ℕ) → Names → (Standing → Type 0) → (Names → Type 0) → Made → Flow → World
+  abbrev pub Flows : List Act → (kept next : ℕ) → Names → (Standing → Type 0) → (Names → Type 0) → Made
+      → Flow → World
       → Type 0
   Flows own kept next before A R under falls w = Fell own kept next before A R under w
   Flows own kept next before A R under (returns v) w = Returned under v w

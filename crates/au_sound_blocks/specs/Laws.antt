@@ -26,13 +26,16 @@ abbrev pub BodiesAreSafe : (types : Types) → (ClosedType → Option (List ℕ)
     → Callables I K → (I → List Value → Action Value) → Type 0
 BodiesAreSafe types owner {T = T} {C = C} see known invoke =
     StepsAreSafe types owner → CallsSafe types owner known invoke
-    → (loose : ℕ → Bool) (result : Meaning) (below : List Act) (base : Lying) (fs : List Frame) (sizes : List ℕ) (size : ℕ)
+    → (loose : ℕ → Bool) (result : Meaning) (below : List Act) (base : Lying) (fs : List Frame)
+    (sizes : List ℕ) (size : ℕ)
     → IsRunning sizes fs size → AllWait (is_active below) fs
-    → (depth number : ℕ) (scope : Scope) (block : Statements Bytes T C) (own : List Act) (h : Standing) (names : Names)
+    → (depth number : ℕ) (scope : Scope) (block : Statements Bytes T C) (own : List Act) (h : Standing)
+    (names : Names)
     (under : Made) (w : World) (ticks : ℕ) → AheadAll see loose number scope (tokens own) block (λ g. ⊥) h
     → RunsAll types owner see known result loose (is_active (own ++ below)) number scope block names
     → number + names_in_block block ≤ size
     → Going types owner loose result below base fs sizes size own number h names under w
     → Good owner
-    (Flows types owner loose result below base fs sizes size own number (number + names_in_block block) names (λ g. ⊥)
+    (Flows types owner loose result below base fs sizes size own number
+    (number + names_in_block block) names (λ g. ⊥)
     (λ ns. Unit {0}) under) (run_all see invoke depth number scope block w ticks)

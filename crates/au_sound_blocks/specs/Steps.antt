@@ -20,7 +20,8 @@ use Rattle.au_sound_expressions.specs.Actions.{ActionsAreSafe}
 use Rattle.au_sound_expressions.specs.Safe.{frame}
 
 -- The types of names that are empty don't matter.
-abbrev pub TypesOfEmptyNames : Types → (ClosedType → Option (List ℕ)) → List Act → List Frame → List ℕ → Made → World
+abbrev pub TypesOfEmptyNames : Types → (ClosedType → Option (List ℕ)) → List Act → List Frame → List ℕ
+    → Made → World
     → Type 0
 TypesOfEmptyNames types owner acts fs sizes under w =
     (hold : Standing) (names others : Names) → ((k : ℕ) → (hold k ≡ empty) ⊎ (names k ≡ others k))
@@ -46,13 +47,18 @@ pub record StepsAreSafe (types : Types) (owner : ClosedType → Option (List ℕ
       → TellsWritersWell types owner acts fs sizes under w ticks
   pub readers : (acts : List Act) (fs : List Frame) (sizes : List ℕ) (under : Made) (w : World) (ticks : ℕ)
       → TellsReadersWell types owner acts fs sizes under w ticks
-  pub held : (acts : List Act) (f : Frame) (fs : List Frame) (sizes : List ℕ) (size : ℕ) (under : Made) (w : World)
+  pub held : (acts : List Act) (f : Frame) (fs : List Frame) (sizes : List ℕ) (size : ℕ) (under : Made)
+      (w : World)
       (ticks : ℕ) → HoldsWell types owner acts f fs sizes size under w ticks
-  pub set : (acts : List Act) (f : Frame) (fs : List Frame) (sizes : List ℕ) (size : ℕ) (under : Made) (w : World)
+  pub set : (acts : List Act) (f : Frame) (fs : List Frame) (sizes : List ℕ) (size : ℕ) (under : Made)
+      (w : World)
       (ticks : ℕ) → SetsWell types owner acts f fs sizes size under w ticks
-  pub put : (acts : List Act) (f : Frame) (fs : List Frame) (sizes : List ℕ) (size : ℕ) (under : Made) (w : World)
+  pub put : (acts : List Act) (f : Frame) (fs : List Frame) (sizes : List ℕ) (size : ℕ) (under : Made)
+      (w : World)
       (ticks : ℕ) → WritersPutWell types owner acts f fs sizes size under w ticks
-  pub filled : (acts : List Act) (f : Frame) (fs : List Frame) (sizes : List ℕ) (size : ℕ) (under : Made) (w : World)
+  pub filled : (acts : List Act) (f : Frame) (fs : List Frame) (sizes : List ℕ) (size : ℕ) (under : Made)
+      (w : World)
       → FillsWell types owner acts f fs sizes size under w
-  pub emptied : (acts : List Act) (f : Frame) (fs : List Frame) (sizes : List ℕ) (size : ℕ) (under : Made) (w : World)
+  pub emptied : (acts : List Act) (f : Frame) (fs : List Frame) (sizes : List ℕ) (size : ℕ) (under : Made)
+      (w : World)
       → EmptiesWell types owner acts f fs sizes size under w

@@ -19,8 +19,8 @@ use Rattle.au_agreeing.specs.Stores.{memory_of, sizes_of, told_of}
 
 module _ {B : Type 0} (types : Types) (owner : B → Option (List ℕ)) (acts : List Act) (hold : Holds)
     (type : ℕ → ℕ → Meaning) where
-  -- A store with these values under way, these borrows open, and so many names in its frames is as it should be: its
-  -- deeds are kept, and its memory and what is told of it are as they should be.
+  -- A store with these values under way, these borrows open, and so many names in its frames is as it
+  -- should be: its deeds are kept, and its memory and what is told of it are as they should be.
   pub record IsSound (under : Made) (lying : List Open) (sizes : List ℕ) (w : World (List ℕ) B) : Type 0 where
     pub keeps : w.keeps ≡ true
     pub sized : sizes_of w ≡ sizes
@@ -30,8 +30,8 @@ module _ {B : Type 0} (types : Types) (owner : B → Option (List ℕ)) (acts : 
   abbrev pub IsToldWell : World (List ℕ) B → Type 0
   IsToldWell w = AtMostOnce w.deeds × Inside w.deeds × OwnMade owner w.deeds
 
-  -- A shipped call comes to a value of this type, over these, in such a store; or it aborts in one that was told well.
-  -- There is a rule for it, and it doesn't wait.
+  -- A shipped call comes to a value of this type, over these, in such a store; or it aborts in one that was
+  -- told well. There is a rule for it, and it doesn't wait.
   abbrev pub GoesWell : Meaning → Made → (lying : List Open) (sizes : List ℕ) → Answer (List ℕ) B → Type 0
   GoesWell t under lying sizes (gives v w) = IsSound ((v, t) ∷ under) lying sizes w
   GoesWell t under lying sizes (writes bytes w) = IsSound ((unit, t) ∷ under) lying sizes w

@@ -21,20 +21,24 @@ use Rattle.au_running_judgements.specs.Uses.{uses}
 use Rattle.au_sound_expressions.specs.Actions.{ActionsAreSafe}
 use Rattle.au_sound_expressions.specs.Safe.{AllWait, CallsSafe, Waits, frame}
 
--- A whole expression of a type, whichever new token it has, gives a value of the type: each name that it consumes is
--- empty then, the others stand as before, and borrows lie as before.
-abbrev pub ExpressionsAreSafe : (types : Types) → (ClosedType → Option (List ℕ)) → {I T C K : Type 0} → View I T C
+-- A whole expression of a type, whichever new token it has, gives a value of the type: each name that it
+-- consumes is empty then, the others stand as before, and borrows lie as before.
+abbrev pub ExpressionsAreSafe : (types : Types) → (ClosedType → Option (List ℕ)) → {I T C K : Type 0}
+    → View I T C
     → Callables I K → (I → List Value → Action Value) → Type 0
 ExpressionsAreSafe types owner {T = T} {C = C} see known invoke =
     ActionsAreSafe types owner → CallsSafe types owner known invoke
-    → (acts : List Act) (names : ℕ → Meaning) (fs : List Frame) (sizes : List ℕ) (size : ℕ) → IsRunning sizes fs size
+    → (acts : List Act) (names : ℕ → Meaning) (fs : List Frame) (sizes : List ℕ) (size : ℕ)
+    → IsRunning sizes fs size
     → AllWait (is_active acts) fs
-    → (scope : Scope) (e : Expression Bytes T C) (t : Meaning) (h : Standing) (under : Made) (w : World) (ticks : ℕ)
+    → (scope : Scope) (e : Expression Bytes T C) (t : Meaning) (h : Standing) (under : Made) (w : World)
+    (ticks : ℕ)
     → ((z : ℕ) → is_active acts z ≡ false
     → IsOf types owner see known names z (with_token z (is_active acts)) scope e t)
     → AreReady h (λ k. uses see k scope e) → ((k : ℕ) → Waits (is_active acts) (h k))
     → IsIn types owner acts (frame h names ∷ fs) sizes under w
     → Good owner
     (λ (v : Value) n.
-    IsIn types owner acts (frame (λ k. spent (uses see k scope e).consumed (h k)) names ∷ fs) sizes ((v, t) ∷ under) n
+    IsIn types owner acts (frame (λ k. spent (uses see k scope e).consumed (h k)) names ∷ fs) sizes ((v, t)
+    ∷ under) n
     × (lying_in n ≡ lying_in w)) (whole see invoke scope e w ticks)

@@ -35,10 +35,11 @@ frame hold names = record { hold = hold; type = names }
 
 module _ (types : Types) (owner : ClosedType → Option (List ℕ)) (acts : List Act) (names : ℕ → Meaning)
     (fs : List Frame) (sizes : List ℕ) (z : ℕ) where
-  -- What an expression of the token z leaves of the running frame, where names stood so before it: a name is empty where
-  -- it was consumed, and else stands as before, but for the token; and what is still to come of it is good for how it
-  -- stands. The frames below are as they were.
-  pub record After (before : Standing) (consumed : ℕ → ℕ) (left : ℕ → Counts) (under : Made) (w : World) : Type 0
+  -- What an expression of the token z leaves of the running frame, where names stood so before it: a name
+  -- is empty where it was consumed, and else stands as before, but for the token; and what is still to come
+  -- of it is good for how it stands. The frames below are as they were.
+  pub record After (before : Standing) (consumed : ℕ → ℕ)
+      (left : ℕ → Counts) (under : Made) (w : World) : Type 0
     where
       pub hold : Standing
       pub met : AreReady hold left
@@ -46,8 +47,8 @@ module _ (types : Types) (owner : ClosedType → Option (List ℕ)) (acts : List
       pub waits : (k : ℕ) → Waits (is_active acts) (hold k)
       pub state : IsIn types owner acts (frame hold names ∷ fs) sizes under w
 
--- Each call is safe that may be made: from wherever its arguments are under way, its result is, and borrows lie as they
--- did.
+-- Each call is safe that may be made: from wherever its arguments are under way, its result is, and borrows
+-- lie as they did.
 abbrev pub CallsSafe : Types → (ClosedType → Option (List ℕ)) → {I K : Type 0} → Callables I K
     → (I → List Value → Action Value) → Type 0
 CallsSafe types owner {K = K} known invoke =
@@ -55,5 +56,6 @@ CallsSafe types owner {K = K} known invoke =
     → AreActive (is_active acts) (known.tokens key) → AllWait (is_active acts) fs → length sizes ≡ length fs
     → types_made made ≡ known.parameters key → IsIn types owner acts fs sizes (onto made under) w
     → Good owner
-    (λ (v : Value) n. IsIn types owner acts fs sizes ((v, known.result key) ∷ under) n × (lying_in n ≡ lying_in w))
+    (λ (v : Value) n. IsIn types owner acts fs sizes ((v, known.result key) ∷ under) n
+    × (lying_in n ≡ lying_in w))
     (invoke (known.of key) (values_of made) w ticks)

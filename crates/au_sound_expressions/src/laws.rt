@@ -11,6 +11,7 @@ ghost use Rattle.au_sound_expressions.specs.Laws.{ExpressionsAreSafe};
 
 /// Whole expressions are safe where actions and calls are.
 pub fn expressions_are_safe<I, T, C, K>()
-    ensures { (types : Types) (owner : ClosedType → Option (List ℕ)) (see : View I T C) (known : Callables I K)
+    ensures { (types : Types) (owner : ClosedType → Option (List ℕ)) (see : View I T C)
+        (known : Callables I K)
         (invoke : I → List Value → Action Value) → ExpressionsAreSafe types owner see known invoke }
 {}

@@ -1,5 +1,6 @@
 -- What is kept of births, by their numbers.
-use Rattle.std.specs.Prelude.{◌≡◌, ℕ, zero, suc, ◌≤◌, nat_eq, List, [], ◌∷◌, ◌++◌, Option, Some, None, slice_get}
+use Rattle.std.specs.Prelude.{◌≡◌, ℕ, zero, suc, ◌≤◌, nat_eq, List, [], ◌∷◌, ◌++◌, Option, Some, None}
+use Rattle.std.specs.Prelude.{slice_get}
 use Rattle.std.specs.Prelude.{if◌then◌else◌}
 use Rattle.indexmap.specs.IndexMap.{IndexMap, get}
 use Rattle.au_stores.specs.declared.worlds.Held.{Held}
@@ -29,4 +30,5 @@ there births id = or_nothing (slice_get births id)
 
 -- this is kept of a birth, at a place
 abbrev pub StandsAt : {S : Type 0} → IndexMap ℕ Held S → ℕ → ℕ → Type 0
-StandsAt kept id place = (one : Held) × (slice_get kept.entries place ≡ Some (id, one)) × (get nat_eq kept id ≡ Some one)
+StandsAt kept id place = (one : Held) × (slice_get kept.entries place ≡ Some (id, one))
+    × (get nat_eq kept id ≡ Some one)

@@ -1,6 +1,7 @@
 //! What is kept of births.
 
-ghost use Rattle.std.specs.Prelude.{◌≡◌, ℕ, ◌∷◌, ◌++◌, [], Some, nat_eq, map, length, is_some, slice_get, slice_set};
+ghost use Rattle.std.specs.Prelude.{◌≡◌, ℕ, ◌∷◌, ◌++◌, [], Some, nat_eq, map, length, is_some, slice_get};
+ghost use Rattle.std.specs.Prelude.{slice_set};
 ghost use Rattle.std.specs.Prelude.{if◌then◌else◌, IfSome, IfOk, OnOk};
 ghost use Rattle.std.specs.Option.{option_map, option_copied};
 ghost use Rattle.indexmap.specs.IndexMap.{get};
@@ -101,7 +102,8 @@ impl Births {
     ///
     /// `Memory` when memory runs out.
     pub(crate) fn put(&mut self, id: u64, birth_held: Held) -> Result<(), Memory>
-        ensures { OnOk result (map held_of self.new ≡ slice_set (map held_of self.old) id (held_of birth_held)) }
+        ensures { OnOk result (map held_of self.new ≡ slice_set (map held_of self.old) id
+            (held_of birth_held)) }
     {
         if self.count <= id {
             return Ok(());

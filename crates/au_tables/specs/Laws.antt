@@ -26,7 +26,8 @@ module _ (program : List ModuleParts) where
   abbrev pub FormsAreAlone : Type 0
   FormsAreAlone =
       BirthsAreShipped program
-      → BoxesAreAlone (types_of program) × BuffersAreAlone (types_of program) × CasesAreAlone (types_of program)
+      → BoxesAreAlone (types_of program) × BuffersAreAlone (types_of program)
+      × CasesAreAlone (types_of program)
       × GrantsAreAlone (types_of program)
 
   -- Fields of Free types are Free, and what has births isn't.
@@ -37,7 +38,8 @@ module _ (program : List ModuleParts) where
   abbrev pub FieldsRun : Type 0
   FieldsRun =
       DefinitionsFit program
-      → (params : List Parameter) (s : Bindings) (z : ℕ) (at : DeclAt) (args : Arguments) (tag : ℕ) (of : List Meaning)
+      → (params : List Parameter) (s : Bindings) (z : ℕ) (at : DeclAt) (args : Arguments) (tag : ℕ)
+      (of : List Meaning)
       → BindingsAreWellFormed (heads_of program) params [] s
       → IsWellFormed (heads_of program) params (named at args)
       → defined_fields program args tag (definition_of program at) ≡ Some of

@@ -1,6 +1,7 @@
--- The types of a program as the memory of a running program asks for them: what its declarations say of each type
--- without type parameters.
-use Rattle.std.specs.Prelude.{◌≡◌, ℕ, Bool, true, false, ◌||◌, List, [], ◌∷◌, map, codes, Option, None, Some, slice_get}
+-- The types of a program as the memory of a running program asks for them: what its declarations say of
+-- each type without type parameters.
+use Rattle.std.specs.Prelude.{◌≡◌, ℕ, Bool, true, false, ◌||◌, List, [], ◌∷◌, map, codes, Option, None}
+use Rattle.std.specs.Prelude.{Some, slice_get}
 use Rattle.std.specs.Prelude.{if◌then◌else◌, option_and_then}
 use Rattle.std.specs.Option.{option_map}
 use Rattle.std.specs.Str.{bytes_eq}
@@ -88,7 +89,8 @@ module _ (program : List ModuleParts) where
 
   -- the argument of a type of this text, which has one
   abbrev pub argument_of : Bytes → Meaning → Option Meaning
-  argument_of text (named at (arguments (of_type t) no_arguments)) = if is_called text at then Some t else None
+  argument_of text (named at (arguments (of_type t) no_arguments)) = if is_called text at then Some t else
+    None
   argument_of text other = None
 
   -- a type is one of this text
@@ -111,12 +113,13 @@ module _ (program : List ModuleParts) where
 
 -- ---- what is asked of a program
 
--- The definition of each declared type has the type parameters and the universe of its row, and is well made where it
--- stands.
+-- The definition of each declared type has the type parameters and the universe of its row, and is well
+-- made where it stands.
 pub record DefinitionsFit (program : List ModuleParts) : Type 0 where
   pub parameters : (at : DeclAt) (d : Standing) (head : Head) → definition_of program at ≡ Some d
       → head_of (heads_of program) at ≡ Some head → head.params ≡ type_parameters d.says
-  pub universes : (at : DeclAt) (d : Standing) (head : Head) (one : DeclaredType) → definition_of program at ≡ Some d
+  pub universes : (at : DeclAt) (d : Standing) (head : Head) (one : DeclaredType)
+      → definition_of program at ≡ Some d
       → head_of (heads_of program) at ≡ Some head → type_declared d.says ≡ Some one
       → head.universe ≡ one.universe
   pub made : (at : DeclAt) (d : Standing) → definition_of program at ≡ Some d
@@ -125,7 +128,8 @@ pub record DefinitionsFit (program : List ModuleParts) : Type 0 where
 -- a text is that of a shipped type whose values have births
 abbrev pub is_of_births : Bytes → Bool
 is_of_births text =
-    bytes_eq text box_text || bytes_eq text buffer_text || bytes_eq text terminal_text || bytes_eq text root_text
+    bytes_eq text box_text || bytes_eq text buffer_text || bytes_eq text terminal_text
+      || bytes_eq text root_text
 
 -- The shipped types whose values have births are Linear, and none of them has a definition.
 pub record BirthsAreShipped (program : List ModuleParts) : Type 0 where

@@ -1,5 +1,5 @@
--- What written types mean while a program runs: `~` can't be written, and each name in what is meant is that of a
--- type parameter or of a region in scope.
+-- What written types mean while a program runs: `~` can't be written, and each name in what is meant is
+-- that of a type parameter or of a region in scope.
 use Rattle.std.specs.Prelude.{◌≡◌, ◌⊎◌, ℕ, true, List, Some, is_some}
 use Rattle.std.specs.List.{list_any}
 use Rattle.std.specs.Str.{bytes_eq}
@@ -25,8 +25,8 @@ abbrev pub IsRegionName : List Bytes → List Parameter → List ℕ → Type 0
 IsRegionName opened params name =
     (list_any (bytes_eq name) opened ≡ true) ⊎ (universe_in params name ≡ Some Region)
 
--- A type can be written where these regions are open, over these type parameters: `~` stands nowhere in it, and
--- each name in it is one that is in scope.
+-- A type can be written where these regions are open, over these type parameters: `~` stands nowhere in it,
+-- and each name in it is one that is in scope.
 pub record IsWritten (opened : List Bytes) (params : List Parameter) (t : Meaning) : Type 0 where
   pub lasting : is_lasting t ≡ true
   pub names : EachName (IsTypeName params) (IsRegionName opened params) t
@@ -34,5 +34,6 @@ pub record IsWritten (opened : List Bytes) (params : List Parameter) (t : Meanin
 -- What a written type means can be written.
 abbrev pub MeaningsAreWritten : Type 0
 MeaningsAreWritten =
-    (opened : List Bytes) (params : List Parameter) (visible : List (Bytes × DeclAt)) (heads : List (DeclAt × Head))
+    (opened : List Bytes) (params : List Parameter) (visible : List (Bytes × DeclAt)) (heads : List (DeclAt
+    × Head))
     (w : WrittenType) (t : Meaning) → meant opened params visible heads w ≡ Some t → IsWritten opened params t

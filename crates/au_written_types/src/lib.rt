@@ -1,4 +1,5 @@
-//! What written types mean while a program runs. The crate holds definitions, in `specs/`, and laws about them.
+//! What written types mean while a program runs. The crate holds definitions, in `specs/`, and laws about
+//! them.
 #![tactic(auto)]
 
 pub mod laws;

@@ -14,8 +14,8 @@ fn main(rt: HostRuntime) -> ExitCode {
     }
 }
 
-/// How the program ends where its words can't be read: for want of memory, or since they ask for nothing. Nothing is
-/// written.
+/// How the program ends where its words can't be read: for want of memory, or since they ask for nothing.
+/// Nothing is written.
 fn status_without_words(error: &io::Error) -> Status {
     match error.kind() {
         io::ErrorKind::OutOfMemory => Status::Memory,
