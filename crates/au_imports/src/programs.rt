@@ -16,7 +16,7 @@ ghost use Rattle.au_types.specs.Meant.{meant};
 
 use au_base::{Memory, Name};
 use au_modules::Modules;
-use au_names::{Declared, NamedModules, PartNames, declaration, definition};
+use au_names::{Declared, NamedModules, PartNames, declaration};
 use au_syntax::{Part, TypeText};
 use au_types::{DeclAt, Heads, Params, Ty};
 use std::alloc::Global;
@@ -84,7 +84,7 @@ impl Resolved {
     pub fn definition(&self, at: DeclAt) -> Option<Declared<'_>>
         ensures { standing_seen result ≡ definition_of (slots.modules self.now) at }
     {
-        definition(self.named.modules(), at)
+        self.named.definition(at)
     }
 
     /// What names mean in a part of the module at a place.

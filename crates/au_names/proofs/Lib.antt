@@ -1,6 +1,7 @@
 pub mod AlongLemmas
 pub mod AmongLemmas
 pub mod DeclaredRowLemmas
+pub mod DefiningLemmas
 pub mod DefinitionLemmas
 pub mod ExportLemmas
 pub mod ImportLemmas

@@ -1,5 +1,6 @@
 pub mod Along
 pub mod DeclaredTypes
+pub mod Defining
 pub mod Exporting
 pub mod HeadsOf
 pub mod Importing
