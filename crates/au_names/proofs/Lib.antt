@@ -5,6 +5,7 @@ pub mod DefiningLemmas
 pub mod DefinitionLemmas
 pub mod ExportLemmas
 pub mod ImportLemmas
+pub mod MethodLemmas
 pub mod NameLemmas
 pub mod OtherLemmas
 pub mod PutLemmas

@@ -3,6 +3,7 @@ use Rattle.std.specs.Prelude.{◌≡◌, ℕ, ◌+◌, List, [], ◌∷◌, ◌+
 use Rattle.au_syntax.specs.Plain.{Bytes, PlainDeclaration}
 use Rattle.au_types.specs.Tables.{with_all}
 use Rattle.au_modules.specs.Programs.{ModuleParts}
+use Rattle.au_names.specs.Methods.{AreMethods}
 use Rattle.au_names.specs.Owned.{declarations_in}
 use Rattle.au_names.specs.Standing.{whole_name}
 use Rattle.au_names.specs.declared.definitions.Definitions.{Definitions}
@@ -26,6 +27,8 @@ abbrev pub wholes_at : Option ModuleParts → List (Bytes × ℕ)
 wholes_at None = []
 wholes_at (Some m) = wholes_of m
 
--- What is made for the modules of a program: the records and unions of each body.
+-- What is made for the modules of a program: the records and unions of each body, and the methods of each
+-- declaration.
 pub record AreDefinitions (definitions : Definitions) (program : List ModuleParts) : Type 0 where
   pub wholes : definitions.wholes.items ≡ map wholes_of program
+  pub methods : AreMethods definitions.methods program

@@ -6,6 +6,7 @@ pub mod HeadsOf
 pub mod Importing
 pub mod Known
 pub mod Meanings
+pub mod Methods
 pub mod Owned
 pub mod Placing
 pub mod Sources

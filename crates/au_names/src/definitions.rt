@@ -12,6 +12,7 @@ ghost use Rattle.au_types.specs.Tables as tables;
 ghost use Rattle.au_types.specs.Tables.{with_all};
 
 use crate::declarations::{Declared, body_at, declaration, declared_in, opaque_name, whole_name};
+use crate::methods::Methods;
 use crate::trees::tree_of;
 use au_base::{Memory, Name};
 use au_modules::Modules;
@@ -19,12 +20,15 @@ use au_syntax::{Decl, Parsed, Part};
 use au_types::{DeclAt, Table};
 use std::alloc::Global;
 
-/// What is made once for a program, so that the definition of a type is found without a walk.
+/// What is made once for a program, so that the definition of a type, or a method of a class, is found without
+/// a walk.
 #[derive(Drop)]
 pub struct Definitions {
     /// The indices of the records and unions among the declarations of each body, by their names, by the
     /// place of its module.
     pub wholes: Vec<Table<usize>>,
+    /// The methods of each class.
+    pub methods: Methods,
 }
 
 /// Puts the index of a declaration under its name, if it is a record or a union.
@@ -89,7 +93,8 @@ impl Definitions {
         ensures { IfOk result (λ definitions. AreDefinitions definitions (slots.modules modules.now)) }
     {
         let wholes = wholes_by_place(alloc, modules)?;
-        Ok(Definitions { wholes })
+        let methods = Methods::of(alloc, modules)?;
+        Ok(Definitions { wholes, methods })
     }
 
     /// The index of the first record or union of a name in the body of the module at a place.

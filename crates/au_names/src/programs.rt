@@ -7,6 +7,7 @@ ghost use Rattle.au_modules.specs.Programs.{ModuleParts};
 ghost use Rattle.au_modules.specs.Slots as slots;
 ghost use Rattle.au_names.specs.Meanings.{declared_by, seen};
 ghost use Rattle.au_names.specs.Known as known;
+ghost use Rattle.au_names.specs.Methods.{method_at, method_seen};
 ghost use Rattle.au_names.specs.Standing.{definition_of, standing_seen};
 ghost use Rattle.au_syntax.specs.Views.{written};
 ghost use Rattle.au_types.specs.declared.spaces.Space.TheVariants as spaces;
@@ -15,12 +16,13 @@ ghost use Rattle.au_types.specs.Meant.{meant};
 
 use crate::declarations::Declared;
 use crate::definitions::{Definitions, definition};
+use crate::methods::method;
 use crate::module_names::{ModuleNames, all_names};
 use crate::part_names::PartNames;
 use crate::walking::heads_of;
-use au_base::{Memory, Name};
+use au_base::{Memory, Name, Text};
 use au_modules::Modules;
-use au_syntax::{Part, TypeText};
+use au_syntax::{Parsed, Part, Signature, TypeText};
 use au_types::{DeclAt, Heads, Params, Scope, Table, Ty, type_meant};
 use std::alloc::Global;
 use std::marker::Model;
@@ -91,6 +93,13 @@ impl NamedModules {
         ensures { standing_seen result ≡ definition_of (slots.modules self.now) at }
     {
         definition(&self.modules, &self.definitions, at)
+    }
+
+    /// The first method of a name in the class with this module and number, if both are there.
+    pub fn method(&self, class: DeclAt, name: &Text) -> Option<&Signature<Parsed>>
+        ensures { method_seen result ≡ method_at (slots.modules self.now) class name.now }
+    {
+        method(&self.modules, &self.definitions.methods, class, name)
     }
 
     /// What names mean in a part of the module at a place.
