@@ -145,14 +145,16 @@ stands_at place q first (d ∷ ds) s h =
     by (q (stands place Body first d)) h (λ e. stands_at place q (first + 1) ds s e)
   where
     by : (b : Bool)
-        → cond b (Some (stands place Body first d)) (find q (standing_from place Body (first + 1) ds)) ≡ Some s
+        → cond b (Some (stands place Body first d)) (find q (standing_from place Body (first + 1) ds))
+        ≡ Some s
         → (find q (standing_from place Body (first + 1) ds) ≡ Some s
         → (k : ℕ) × (s.index ≡ first + 1 + k)
         × (slice_get (standing_from place Body (first + 1) ds) k ≡ Some s))
         → (k : ℕ) × (s.index ≡ first + k)
         × (slice_get (stands place Body first d ∷ standing_from place Body (first + 1) ds) k ≡ Some s)
     by true e on =
-        let index : first ≡ s.index = ap (λ (t : Standing). t.index) (same_Some (stands place Body first d) s e) in
+        let index : first ≡ s.index =
+        ap (λ (t : Standing). t.index) (same_Some (stands place Body first d) s e) in
         (0, omega (arith, index), e)
     by false e on =
         let r = on e in

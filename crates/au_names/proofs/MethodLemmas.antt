@@ -1,7 +1,7 @@
 -- What the tables of the methods of classes answer.
 use Rattle.std.proofs.Common.{◌≡◌, ℕ, suc, ◌+◌, ◌<◌, ◌≤◌, ◌⊎◌, inl, inr, Bool, true, false, cond, List, []}
-use Rattle.std.proofs.Common.{◌∷◌, ◌++◌, length, map, find, drop, get_or, Option, None, Some, is_some, Vec, refl}
-use Rattle.std.proofs.Common.{sym, ap, ◌∙◌, arith, append_assoc, true≢false}
+use Rattle.std.proofs.Common.{◌∷◌, ◌++◌, length, map, find, drop, get_or, Option, None, Some, is_some, Vec}
+use Rattle.std.proofs.Common.{refl, sym, ap, ◌∙◌, arith, append_assoc, true≢false}
 use Rattle.std.specs.Prelude.{slice_get}
 use Rattle.std.specs.Borrow.{Bor}
 use Rattle.std.specs.Global.{Global}
@@ -140,7 +140,8 @@ pub places_step : (program : List ModuleParts) (place : ℕ) (made after : List 
     → option_map methods_by_number (slice_get program place) ≡ Some all.items → after ≡ made ++ all ∷ []
     → map held after ++ map methods_by_number (drop (place + 1) program) ≡ map methods_by_number program
 places_step program place made after all old here new =
-    ap (λ r. r ++ map methods_by_number (drop (place + 1) program)) (ap (map held) new ∙ map_push held made all)
+    ap (λ r. r ++ map methods_by_number (drop (place + 1) program))
+    (ap (map held) new ∙ map_push held made all)
     ∙ mapped_step methods_by_number (map held made) program place all.items old here
 
 -- ---- what is found
@@ -218,7 +219,8 @@ found_from : (name : Bytes) (first : ℕ) (hs : List (Header Bytes)) (index : �
     → (k : ℕ) × (index ≡ first + k) × (slice_get hs k ≡ find (is_method name) hs)
 unfolding methods_from
 found_from name first [] index h = absurd (none-some index (sym h))
-found_from name first (x ∷ hs) index h = by (bytes_eq name x.name.name) h (found_from name (first + 1) hs index)
+found_from name first (x ∷ hs) index h =
+    by (bytes_eq name x.name.name) h (found_from name (first + 1) hs index)
   where
     by : (b : Bool) → Some index ≡ cond b (Some first) (tables.find name (methods_from (first + 1) hs))
         → (Some index ≡ tables.find name (methods_from (first + 1) hs)

@@ -20,8 +20,8 @@ use au_syntax::{Decl, Parsed, Part};
 use au_types::{DeclAt, Table};
 use std::alloc::Global;
 
-/// What is made once for a program, so that the definition of a type, or a method of a class, is found without
-/// a walk.
+/// What is made once for a program, so that the definition of a type, or a method of a class, is found
+/// without a walk.
 #[derive(Drop)]
 pub struct Definitions {
     /// The indices of the records and unions among the declarations of each body, by their names, by the

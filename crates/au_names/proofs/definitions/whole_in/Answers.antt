@@ -17,6 +17,7 @@ returns-in-Some c =
     let program = slots.modules c.args.modules.now in
     let o = slice_get program c.args.place in
     c.declared_in.ensures
-    ∙ ap (λ l. slice_get l c.in-Some.index) (body_list c.args.place o (tree_seen c.body_at.result) c.body_at.ensures)
+    ∙ ap (λ l. slice_get l c.in-Some.index)
+    (body_list c.args.place o (tree_seen c.body_at.result) c.body_at.ensures)
     ∙ whole_there c.args.place c.args.name.now o c.in-Some.index
     (sym c.in-Some.is ∙ c.whole.ensures program c.requires)

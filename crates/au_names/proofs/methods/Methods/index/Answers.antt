@@ -8,7 +8,8 @@ returns-then-place-len c = λ program are.
     let made = c.args.self.now.by_place.items in
     let within : c.args.class.«module» < length made = omega (arith, c.len.ensures, c.if-place-len.true) in
     c.index_among.ensures
-    ∙ ap (tables.find c.args.name.now) (index_there program made c.args.class c.index.result.now are within c.index.ensures)
+    ∙ ap (tables.find c.args.name.now)
+    (index_there program made c.args.class c.index.result.now are within c.index.ensures)
 
 pub returns-else-place-len : goal.returns-else-place-len
 returns-else-place-len c = λ program are.
