@@ -1,7 +1,8 @@
 -- One step of each walk over fields, arms and cases.
 use Rattle.std.proofs.Common.{◌≡◌, ◌==◌, ◌&&◌, ◌<◌, get_or, count_by, ℕ, ◌+◌, ◌-◌, drop, length, Bool, List}
-use Rattle.std.proofs.Common.{[], ◌∷◌, Some, Ok, Err, arith, refl, ap, sym, ◌∙◌}
+use Rattle.std.proofs.Common.{[], ◌∷◌, Option, Some, Ok, Err, is_some, cond, arith, refl, ap, sym, ◌∙◌}
 use Rattle.std.proofs.lemmas.List.{at_drop_more}
+use Rattle.std.proofs.lemmas.List.Folds.{fold-map, list_all-map}
 use Rattle.std.specs.List.{list_all}
 use Rattle.std.specs.Str.{bytes_eq}
 use Rattle.au_syntax.specs.declared.names.Bind.{Bind}
@@ -9,7 +10,7 @@ use Rattle.au_syntax.specs.declared.parsed.Parsed.{Parsed}
 use Rattle.au_syntax.specs.Plain.{Bytes}
 use Rattle.au_typing.specs.InScope.{with_bound, with_typed, with_variable}
 use Rattle.au_typing.specs.DerivationSearch.{judge_all_bound, judge_arm, judge_binds, judge_bound}
-use Rattle.au_typing.specs.Parts.{case_of_arm}
+use Rattle.au_typing.specs.Parts.{ArmHead, arms_fit, case_meant, case_of_arm, is_for}
 use Rattle.au_typing.specs.Scopes as scopes
 use Rattle.au_noting.specs.Scopes.{without}
 use Rattle.au_types.specs.Types.{Meaning}
@@ -17,10 +18,11 @@ use Rattle.au_typing.specs.Faults.{Noting, ◌>>=◌}
 use Rattle.au_sights.specs.declared.called.Case as code
 use Rattle.au_sights.specs.declared.called.Typed as code_typed
 use Rattle.au_sights.specs.Sights.{case_said}
-use Rattle.au_typing.specs.Parts.{ArmHead}
+use Rattle.au_names.specs.declared.targets.Target.{Target}
 use Rattle.au_typing.specs.Scopes.{Scope}
 use Rattle.au_judgements.specs.Said.{bind_said, binds_said, cases_said, fields_named}
-use Rattle.au_judgements.specs.Steps.{each_has_one_arm, formed, has_one_arm, judge_found, judge_one, with_one}
+use Rattle.au_judgements.specs.Steps.{all_meant, each_has_one_arm, each_is_for_one, formed, has_one_arm, is_meant}
+use Rattle.au_judgements.specs.Steps.{judge_found, judge_one, names_fit, with_one}
 use Rattle.au_noting.specs.Said.{all_typed}
 
 -- of the fields from one on, each is bound once where it is and each behind it
@@ -37,14 +39,37 @@ once_step labels fields i one within is =
     (sym is)
 
 -- of the cases from one on, each has one arm where it has and each behind it
-pub arm_step : (sc : Scope) (heads : List ArmHead) (cases : List code.Case) (i : ℕ) (one : code.Case) →
+pub arm_step : (meant : List (Option Target)) (cases : List code.Case) (i : ℕ) (one : code.Case) →
     i < length cases → one ≡ get_or cases i one →
-    each_has_one_arm sc heads (cases_said (drop i cases))
-    ≡ (has_one_arm sc heads (case_said one) && each_has_one_arm sc heads (cases_said (drop (i + 1) cases)))
-arm_step sc heads cases i one within is =
-    at_drop_more (λ rest. each_has_one_arm sc heads (cases_said rest)) cases i one within
-    ∙ ap (λ (x : code.Case). has_one_arm sc heads (case_said x) && each_has_one_arm sc heads
+    each_has_one_arm meant (cases_said (drop i cases))
+    ≡ (has_one_arm meant (case_said one) && each_has_one_arm meant (cases_said (drop (i + 1) cases)))
+arm_step meant cases i one within is =
+    at_drop_more (λ rest. each_has_one_arm meant (cases_said rest)) cases i one within
+    ∙ ap (λ (x : code.Case). has_one_arm meant (case_said x) && each_has_one_arm meant
     (cases_said (drop (i + 1) cases))) (sym is)
+
+-- as many arms are for a case as names mean it
+counted_meant : (sc : Scope) (one : scopes.Case) (heads : List ArmHead) →
+    count_by (is_meant one) (all_meant sc heads) ≡ count_by (is_for sc one) heads
+counted_meant sc one heads =
+    fold-map (λ (n : ℕ) (meant : Option Target). n + cond (is_meant one meant) 1 0)
+    (λ (head : ArmHead). sc.outside.target head.name) 0 heads
+
+-- each case has one arm where it is what one name means
+cases_meant : (sc : Scope) (heads : List ArmHead) (cases : List scopes.Case) →
+    each_has_one_arm (all_meant sc heads) cases ≡ list_all (λ one. count_by (is_for sc one) heads == 1) cases
+cases_meant sc heads [] = refl
+cases_meant sc heads (one ∷ cases) =
+    ap (λ n. (n == 1) && each_has_one_arm (all_meant sc heads) cases) (counted_meant sc one heads)
+    ∙ ap (λ b. (count_by (is_for sc one) heads == 1) && b) (cases_meant sc heads cases)
+
+-- arms are those for the cases where their names mean these
+pub fit_by_meanings : (sc : Scope) (cases : List scopes.Case) (heads : List ArmHead) →
+    names_fit cases (all_meant sc heads) ≡ arms_fit sc cases heads
+fit_by_meanings sc cases heads =
+    ap (λ b. b && each_is_for_one cases (all_meant sc heads)) (cases_meant sc heads cases)
+    ∙ ap (λ b. list_all (λ one. count_by (is_for sc one) heads == 1) cases && b)
+    (list_all-map (λ one. is_some (case_meant cases one)) (λ (head : ArmHead). sc.outside.target head.name) heads)
 
 -- a field that is bound, as it is read
 abbrev TheBind : Type 0

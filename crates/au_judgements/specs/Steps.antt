@@ -1,5 +1,5 @@
 -- Steps of the judgements of single statements, each with a name of its own.
-use Rattle.std.specs.Prelude.{◌==◌, List, Bool, false, is_some, Option, Some, None, Ok, Err}
+use Rattle.std.specs.Prelude.{◌==◌, ◌&&◌, List, [], ◌∷◌, map, Bool, false, is_some, Option, Some, None, Ok, Err}
 use Rattle.std.specs.List.{count_by, find, list_all}
 use Rattle.au_syntax.specs.declared.expressions.BorrowMode.{BorrowMode}
 use Rattle.au_syntax.specs.declared.types.Access.{Access}
@@ -11,7 +11,7 @@ use Rattle.au_types.specs.Same.{same}
 use Rattle.au_types.specs.Types.{Meaning}
 use Rattle.au_judged_types.specs.Judging.{refers}
 use Rattle.au_typing.specs.InScope.{with_typed}
-use Rattle.au_typing.specs.Parts.{ArmHead, borrow_type, case_of_arm, is_for}
+use Rattle.au_typing.specs.Parts.{ArmHead, borrow_type, case_meant}
 use Rattle.au_typing.specs.DerivationSearch.{free_place, is_of_borrow, judge_binds, judge_bound, judge_reference}
 use Rattle.au_typing.specs.DerivationSearch.{place_type, written_through}
 use Rattle.au_imports.specs.Clashing.{same_target}
@@ -50,17 +50,29 @@ judge_found sc found head = known_or (shape arms_wanted) found >>= λ one. judge
 abbrev pub case_of_target : List Case → Target → Option Case
 case_of_target cases target = find (λ one. same_target target one.target) cases
 
--- a case has exactly one arm
-abbrev pub has_one_arm : Scope → List ArmHead → Case → Bool
-has_one_arm sc heads one = count_by (is_for sc one) heads == 1
+-- what the names of arms mean
+abbrev pub all_meant : Scope → List ArmHead → List (Option Target)
+all_meant sc heads = map (λ (head : ArmHead). sc.outside.target head.name) heads
 
--- each case has exactly one arm
-abbrev pub each_has_one_arm : Scope → List ArmHead → List Case → Bool
-each_has_one_arm sc heads cases = list_all (has_one_arm sc heads) cases
+-- what a name means is this case
+abbrev pub is_meant : Case → Option Target → Bool
+is_meant one meant = is_some (case_meant (one ∷ []) meant)
 
--- each arm is for one of the cases
-abbrev pub each_is_for_one : Scope → List Case → List ArmHead → Bool
-each_is_for_one sc cases heads = list_all (λ head. is_some (case_of_arm sc cases head)) heads
+-- a case is what exactly one name means
+abbrev pub has_one_arm : List (Option Target) → Case → Bool
+has_one_arm meant one = count_by (is_meant one) meant == 1
+
+-- each case is what exactly one name means
+abbrev pub each_has_one_arm : List (Option Target) → List Case → Bool
+each_has_one_arm meant cases = list_all (has_one_arm meant) cases
+
+-- each name means one of the cases
+abbrev pub each_is_for_one : List Case → List (Option Target) → Bool
+each_is_for_one cases meant = list_all (λ one. is_some (case_meant cases one)) meant
+
+-- each case is what exactly one name means, and each name means one of them
+abbrev pub names_fit : List Case → List (Option Target) → Bool
+names_fit cases meant = each_has_one_arm meant cases && each_is_for_one cases meant
 
 -- the region and the type of a reference to a written type
 abbrev pub reference_into : Scope → Access → WrittenType → Bytes → Noting (Bytes × Meaning)

@@ -1,9 +1,10 @@
 //! The arms of a case.
 //!
-//! Whether each case has exactly one arm is counted case by case: cases times arms, where a union has at most
-//! 256 cases (a greater one is refused where programs are gathered).
+//! What the name of an arm means is asked once for each arm. Whether each case has exactly one arm is then counted
+//! case by case without the table of names: cases times arms, where a union has at most 256 cases (a greater one
+//! is refused where programs are gathered).
 
-ghost use Rattle.std.specs.Prelude.{◌≡◌};
+ghost use Rattle.std.specs.Prelude.{◌≡◌, IfOk, map};
 ghost use Rattle.std.specs.List.{count_by};
 ghost use Rattle.std.specs.Option.{option_copied, option_map};
 ghost use Rattle.au_typing.specs.Parts as parts;
@@ -18,6 +19,7 @@ ghost use Rattle.au_types.specs.Views.{argument, argument_all, meaning};
 
 use crate::binding::judge_binds;
 use crate::unions::cases_told;
+use au_base::Memory;
 use au_names::Target;
 use au_noting::faults::{other_form, unknown};
 use au_noting::{Fault, Scope};
@@ -82,68 +84,100 @@ pub fn case_of_arm<'c>(scope: &Scope, all: &'c [Case], arm: &Arm<Parsed>) -> Opt
     case_meant(all, target(&scope.outside, &arm.case.name))
 }
 
-/// Whether an arm is for a case.
-pub fn is_for(scope: &Scope, one: &Case, arm: &Arm<Parsed>) -> bool
-    ensures { result ≡ parts.is_for (scope_said scope.now) (case_said one.now) (head_said arm.now) }
+/// What the names of arms mean, in order.
+fn all_meant<'s>(
+    alloc: Global,
+    scope: &Scope<'s>,
+    arms: &[Arm<Parsed>],
+) -> Result<Vec<Option<&'s Target>>, Memory>
+    ensures { IfOk result (λ all. map option_copied all.items
+        ≡ steps.all_meant (scope_said scope.now) (heads_said arms.now)) }
 {
-    match target(&scope.outside, &arm.case.name) {
-        Some(meant) => is_same_target(meant, &one.target),
+    let mut all = Vec::new(alloc);
+    for arm in arms {
+        all.push(target(&scope.outside, &arm.case.name))?;
+    }
+    Ok(all)
+}
+
+/// Whether a name that means this is that of a case.
+fn is_meant(one: &Case, meant: Option<&Target>) -> bool
+    ensures { result ≡ steps.is_meant (case_said one.now) (option_copied meant.entry) }
+{
+    match meant {
+        Some(target) => is_same_target(target, &one.target),
         None => false,
     }
 }
 
-/// How many arms are for a case.
-fn arms_for(scope: &Scope, one: &Case, arms: &[Arm<Parsed>]) -> usize
+/// How many names are that of a case.
+fn times_meant(one: &Case, all_meant: &[Option<&Target>]) -> usize
     ensures { result
-        ≡ count_by (parts.is_for (scope_said scope.now) (case_said one.now)) (heads_said arms.now) }
+        ≡ count_by (steps.is_meant (case_said one.now)) (map option_copied all_meant.now) }
 {
     let mut count = 0;
-    for arm in arms {
-        if is_for(scope, one, arm) {
+    for meant in all_meant {
+        if is_meant(one, *meant) {
             count += 1;
         }
     }
     count
 }
 
-/// Whether a case has exactly one arm.
-fn has_one_arm(scope: &Scope, one: &Case, arms: &[Arm<Parsed>]) -> bool
-    ensures { result ≡ steps.has_one_arm (scope_said scope.now) (heads_said arms.now) (case_said one.now) }
+/// Whether exactly one name is that of a case.
+fn has_one_arm(one: &Case, all_meant: &[Option<&Target>]) -> bool
+    ensures { result ≡ steps.has_one_arm (map option_copied all_meant.now) (case_said one.now) }
 {
-    arms_for(scope, one, arms) == 1
+    times_meant(one, all_meant) == 1
 }
 
-/// Whether each case has exactly one arm.
-fn each_has_one_arm(scope: &Scope, all: &[Case], arms: &[Arm<Parsed>]) -> bool
-    ensures { result
-        ≡ steps.each_has_one_arm (scope_said scope.now) (heads_said arms.now) (cases_said all.now) }
+/// Whether exactly one name is that of each case.
+fn each_has_one_arm(all: &[Case], all_meant: &[Option<&Target>]) -> bool
+    ensures { result ≡ steps.each_has_one_arm (map option_copied all_meant.now) (cases_said all.now) }
 {
     for one in all {
-        if !has_one_arm(scope, one, arms) {
+        if !has_one_arm(one, all_meant) {
             return false;
         }
     }
     true
 }
 
-/// Whether each arm is for one of the cases.
-fn each_is_for_one(scope: &Scope, all: &[Case], arms: &[Arm<Parsed>]) -> bool
-    ensures { result
-        ≡ steps.each_is_for_one (scope_said scope.now) (cases_said all.now) (heads_said arms.now) }
+/// Whether each name is that of one of the cases.
+fn each_is_for_one(all: &[Case], all_meant: &[Option<&Target>]) -> bool
+    ensures { result ≡ steps.each_is_for_one (cases_said all.now) (map option_copied all_meant.now) }
 {
-    for arm in arms {
-        if case_of_arm(scope, all, arm).is_none() {
+    for meant in all_meant {
+        if case_meant(all, *meant).is_none() {
             return false;
         }
     }
     true
+}
+
+/// Whether exactly one name is that of each case, and each name is that of one of them.
+fn names_fit(all: &[Case], all_meant: &[Option<&Target>]) -> bool
+    ensures { result ≡ steps.names_fit (cases_said all.now) (map option_copied all_meant.now) }
+{
+    each_has_one_arm(all, all_meant) && each_is_for_one(all, all_meant)
 }
 
 /// Whether each case of a union has exactly one arm, and each arm is for one of them.
-pub fn arms_fit(scope: &Scope, all: &[Case], arms: &[Arm<Parsed>]) -> bool
-    ensures { result ≡ parts.arms_fit (scope_said scope.now) (cases_said all.now) (heads_said arms.now) }
+///
+/// # Errors
+///
+/// Only for want of memory.
+pub fn arms_fit(
+    alloc: Global,
+    scope: &Scope,
+    all: &[Case],
+    arms: &[Arm<Parsed>],
+) -> Result<bool, Memory>
+    ensures { IfOk result (λ fit. fit
+        ≡ parts.arms_fit (scope_said scope.now) (cases_said all.now) (heads_said arms.now)) }
 {
-    each_has_one_arm(scope, all, arms) && each_is_for_one(scope, all, arms)
+    let meant = all_meant(alloc, scope, arms)?;
+    Ok(names_fit(all, meant.as_slice()))
 }
 
 /// That an arm is for a case, and binds each of its fields.
@@ -196,7 +230,7 @@ pub fn judge_heads(
         (spec.judge_heads (scope_said scope.now) (cases_said all.now) (heads_said arms.now)) }
 {
     judge_names(alloc, scope, arms)?;
-    if arms_fit(scope, all, arms) {
+    if arms_fit(alloc, scope, all, arms)? {
         judge_arms(alloc, scope, all, arms)
     } else {
         Err(other_form(Form::Arms))
