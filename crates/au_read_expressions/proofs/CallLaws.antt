@@ -1,8 +1,8 @@
 -- The row of calls, and the arguments of a call.
-use Rattle.std.proofs.Common.{◌≡◌, ℕ, suc, Bool, true, not, ◌&&◌, List, [], ◌∷◌, ◌++◌, map, drop, Option}
-use Rattle.std.proofs.Common.{Some, Ok, refl, sym, ap, ◌∙◌, subst, arith, inl, inr}
+use Rattle.std.proofs.Common.{◌≡◌, ℕ, suc, Bool, true, false, not, ◌&&◌, List, [], ◌∷◌, ◌++◌, map, drop, Option}
+use Rattle.std.proofs.Common.{cond, Some, Ok, refl, sym, ap, ◌∙◌, subst, arith, inl, inr}
 use Rattle.std.specs.List.{list_all, flat_map}
-use Rattle.std.proofs.lemmas.Bool.{and_parts}
+use Rattle.std.proofs.lemmas.Bool.{and_parts, cond-true}
 use Rattle.au_base.specs.declared.limits.Limit.{Limit}
 use Rattle.au_base.specs.declared.places.Pos.{Pos}
 use Rattle.au_base.specs.declared.tokens.Sign.TheVariants.{FatArrow, LeftParenthesis, RightParenthesis, Comma}
@@ -20,7 +20,7 @@ use Rattle.au_syntax.specs.Plain.{Bytes, PlainExpression, PlainExpressions, Plai
 use Rattle.au_syntax.specs.Words.{Words, begun, mark, listed, name_words, expression_words}
 use Rattle.au_syntax.specs.Words.{words_of_expressions, words_of_arguments}
 use Rattle.au_read_expressions.specs.Bounds.{Bounds, TreePasses}
-use Rattle.au_read_expressions.specs.Reading.{Read, front, is_front, name_at, exactly, behind_tokens, closed}
+use Rattle.au_read_expressions.specs.Reading.{Read, no, front, is_front, name_at, exactly, behind_tokens, closed}
 use Rattle.au_read_expressions.specs.Reading.{pair, shaped, built, listed as listed_at}
 use Rattle.au_read_expressions.specs.Spelling.{Begins, fixed}
 use Rattle.au_read_expressions.proofs.Begins.{begins_split, front_of}
@@ -32,10 +32,10 @@ use Rattle.au_read_expressions.proofs.Limits.{TreeFits, one_fits, one_passes, be
 use Rattle.au_read_expressions.proofs.Single.{exactly_reads, name_form, name_reads}
 use Rattle.au_read_expressions.specs.ExpressionReading.{Given, in_order, by_name, expressions_of}
 use Rattle.au_read_expressions.specs.ExpressionReading.{arguments_of, call_by, call_of, labelled, none_given}
-use Rattle.au_read_expressions.specs.ExpressionReading.{given_by, given_at, call_with, ends_expression}
+use Rattle.au_read_expressions.specs.ExpressionReading.{goes_on, ordered, given_by, given_at, call_with, ends_expression}
 use Rattle.au_read_expressions.proofs.ExpressionForm.{expression_form, call_form, expression_some}
 use Rattle.au_read_expressions.proofs.RowLaws.{Row, row}
-use Rattle.au_read_expressions.proofs.SecondTokens.{plain_argument, no_label, second_is, begins_plain}
+use Rattle.au_read_expressions.proofs.SecondTokens.{plain_argument, second_is, begins_plain}
 
 -- ---- trees' lists as lists
 
@@ -56,13 +56,13 @@ arguments_again no_arguments = refl
 arguments_again (arguments label e rest) = ap (arguments label e) (arguments_again rest)
 
 -- behind an argument stands a comma or the parenthesis
-list_no_label : (list : List Words) (ts mid rest : List Token) →
+list_goes_on : (list : List Words) (ts mid rest : List Token) →
     Begins (flat_map (λ one. mark Comma ++ one) list) ts mid → Begins (mark RightParenthesis) mid rest →
-    no_label (front ts) ≡ true
-list_no_label [] ts mid rest h k = ap (λ r. no_label (front r)) h
-    ∙ ap no_label (front_of (mark RightParenthesis) mid rest (omega arith) k)
-list_no_label (one ∷ list) ts mid rest h k =
-    ap no_label (front_of (flat_map (λ x. mark Comma ++ x) (one ∷ list)) ts mid (omega arith) h)
+    goes_on (front ts) ≡ true
+list_goes_on [] ts mid rest h k = ap (λ r. goes_on (front r)) h
+    ∙ ap goes_on (front_of (mark RightParenthesis) mid rest (omega arith) k)
+list_goes_on (one ∷ list) ts mid rest h k =
+    ap goes_on (front_of (flat_map (λ x. mark Comma ++ x) (one ∷ list)) ts mid (omega arith) h)
 
 -- ---- the forms of arguments
 
@@ -258,7 +258,13 @@ module _ (b : Bounds) (n : ℕ) (r q : List Token → Read PlainExpression)
       given_by r q first second ts ≡ shaped in_order order_at ts
   order_by (Some (Sign RightParenthesis)) second ts h = absurd cc
   order_by (Some (Name bytes)) (Some (Sign FatArrow)) ts h = absurd cc
+  order_by (Some (Name bytes)) second ts h = cond-true (goes_on second) (ordered r q ts) (no (drop 1 ts)) h
   order_by first second ts h = refl
+
+  name_take : (v : Bool) (ts rest : List Token) (g : Given) → cond v (ordered r q ts) (no (drop 1 ts)) ≡ Ok (g, rest) →
+      Sound (given_form b n) g ts rest
+  name_take true ts rest g e = order_sound ts rest g e
+  name_take false ts rest g e = absurd cc
 
   given_take : (first second : Option What) (ts rest : List Token) (g : Given) → given_by r q first second ts
       ≡ Ok (g, rest) → Sound (given_form b n) g ts rest
@@ -266,6 +272,7 @@ module _ (b : Bounds) (n : ℕ) (r q : List Token → Read PlainExpression)
       anything none_at none_reads (none_given r q) none_shapes ts rest g e
   given_take (Some (Name bytes)) (Some (Sign FatArrow)) ts rest g e = shaped_sound names_form (given_form b n)
       anything names_at names_reads by_name names_shapes ts rest g e
+  given_take (Some (Name bytes)) second ts rest g e = name_take (goes_on second) ts rest g e
   given_take first second ts rest g e = order_sound ts rest g e
 
   order_plain : (e : PlainExpression) (es : List PlainExpression) (ts rest : List Token) →
@@ -276,7 +283,7 @@ module _ (b : Bounds) (n : ℕ) (r q : List Token → Read PlainExpression)
       let others : Words = flat_map (λ one. mark Comma ++ one) list in
       let outer = begins_split (expression_words e ++ others) (mark RightParenthesis) ts rest h in
       let inside = begins_split (expression_words e) others ts outer.0 outer.1 in
-      let next : no_label (front inside.0) ≡ true = list_no_label list inside.0 outer.0 rest inside.2 outer.2 in
+      let next : goes_on (front inside.0) ≡ true = list_goes_on list inside.0 outer.0 rest inside.2 outer.2 in
       begins_plain e ts inside.0 inside.1
       (and_parts (formed_expression e) (formed_expressions (expressions_of es)) good).0 next
 

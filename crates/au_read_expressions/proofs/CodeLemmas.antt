@@ -1,6 +1,6 @@
 -- What the code's steps need: a level more, an expression's depth as it is counted, and the arguments
 -- of a call.
-use Rattle.std.proofs.Common.{◌≡◌, ◌≢◌, ℕ, zero, suc, ◌-◌, ◌<◌, Bool, true, false, nat_le, cond, List, []}
+use Rattle.std.proofs.Common.{◌≡◌, ◌≢◌, ℕ, zero, suc, ◌-◌, ◌<◌, Bool, true, false, not, nat_le, cond, List, []}
 use Rattle.std.proofs.Common.{◌∷◌, map, drop, Vec, Option, Some, None, Ok, Err, refl, sym, ap, ◌∙◌, arith}
 use Rattle.std.specs.Global.{Global}
 use Rattle.std.proofs.lemmas.Bool.{leb-true, leb-false, le-leb, lt-leb, cond-true}
@@ -11,16 +11,16 @@ use Rattle.au_base.specs.declared.tokens.What.{What}
 use Rattle.au_base.specs.declared.tokens.What.TheVariants.{Word, Sign, Name, Number, Text}
 use Rattle.au_read_expressions.specs.Bounds.{Bounds}
 use Rattle.au_read_expressions.specs.Reading.{Read, ◌>>=◌, front, is_front, begins_with, place_of, name_at}
-use Rattle.au_read_expressions.specs.Reading.{tokens_at, nothing_at, behind_tokens, joined_at, joined_with}
+use Rattle.au_read_expressions.specs.Reading.{tokens_at, nothing_at, behind_tokens, joined_at, joined_with, no}
 use Rattle.au_read_expressions.specs.Reading.{built_at, closed, shaped, listed, exactly}
 use Rattle.au_read_expressions.proofs.Steps.{given}
 use Rattle.au_read_expressions.specs.Arguments.{argument, called, called_by_name, called_in_order}
 use Rattle.au_read_expressions.specs.ExpressionReading.{site, call_of, begins_atom, begins_expression}
 use Rattle.au_read_expressions.specs.ExpressionReading.{expressions_of, arguments_of, Given, in_order}
-use Rattle.au_read_expressions.specs.ExpressionReading.{by_name, labelled, none_given, given_by, given_at}
+use Rattle.au_read_expressions.specs.ExpressionReading.{by_name, labelled, none_given, ordered, goes_on, given_by, given_at}
 use Rattle.au_read_expressions.specs.ExpressionReading.{call_with, atom_with, expression_with, too_deep}
 use Rattle.au_read_expressions.specs.ExpressionReading.{no_call, expression_at, atom_at, call_at}
-use Rattle.au_read_expressions.specs.FirstTokens.{is_label}
+use Rattle.au_read_expressions.specs.FirstTokens.{is_label, is_cut_short}
 use Rattle.au_syntax.specs.declared.expressions.Argument.{Argument}
 use Rattle.au_syntax.specs.declared.expressions.Expr.{Expr}
 use Rattle.au_syntax.specs.declared.expressions.Expr as code
@@ -131,38 +131,50 @@ counted_within d n c small is = counted_as d n c (nat_le d n) small is refl
 -- ---- arguments
 
 module _ (inner inner_atom : List Token → Read PlainExpression) where
-  -- the arguments of a call by three cases
-  abbrev given_cases : Bool → Bool → List Token → Read Given
-  given_cases true named ts = shaped (none_given inner inner_atom) (exactly (Sign RightParenthesis ∷ [])) ts
-  given_cases false true ts = shaped by_name
+  -- the arguments of a call by four cases
+  abbrev given_cases : Bool → Bool → Bool → List Token → Read Given
+  given_cases true named cut ts = shaped (none_given inner inner_atom) (exactly (Sign RightParenthesis ∷ [])) ts
+  given_cases false true cut ts = shaped by_name
       (closed (Sign RightParenthesis ∷ []) (listed (labelled inner inner_atom))) ts
-  given_cases false false ts = shaped in_order (closed (Sign RightParenthesis ∷ []) (listed inner)) ts
+  given_cases false false true ts = no (drop 1 ts)
+  given_cases false false false ts = ordered inner inner_atom ts
+
+  name_cases : (v : Bool) (ts : List Token) → cond v (ordered inner inner_atom ts) (no (drop 1 ts))
+      ≡ given_cases false false (not v) ts
+  name_cases true ts = refl
+  name_cases false ts = refl
 
   given_is : (first second : Option What) (ts : List Token) → given_by inner inner_atom first second ts
-      ≡ given_cases (is_front (Sign RightParenthesis) first) (is_label first second) ts
+      ≡ given_cases (is_front (Sign RightParenthesis) first) (is_label first second) (is_cut_short first second) ts
   given_is (Some (Sign RightParenthesis)) second ts = refl
   given_is (Some (Name bytes)) (Some (Sign FatArrow)) ts = refl
+  given_is (Some (Name bytes)) second ts = name_cases (goes_on second) ts
   given_is first second ts = refl
 
-  pub given_none : (ts : List Token) → begins_with (Sign RightParenthesis) ts ≡ true
-      → given_at inner inner_atom ts ≡ shaped (none_given inner inner_atom) (exactly (Sign RightParenthesis ∷ [])) ts
-  given_none ts ends = given_is (front ts) (front (drop 1 ts)) ts
-      ∙ ap (λ c. given_cases c (is_label (front ts) (front (drop 1 ts))) ts) ends
+  abbrev label_of : List Token → Bool
+  label_of ts = is_label (front ts) (front (drop 1 ts))
 
-  pub given_named : (ts : List Token) → begins_with (Sign RightParenthesis) ts ≡ false →
-      is_label (front ts) (front (drop 1 ts)) ≡ true
+  abbrev cut_of : List Token → Bool
+  cut_of ts = is_cut_short (front ts) (front (drop 1 ts))
+
+  given_cased : (ts : List Token) → given_at inner inner_atom ts
+      ≡ given_cases (begins_with (Sign RightParenthesis) ts) (label_of ts) (cut_of ts) ts
+  given_cased ts = given_is (front ts) (front (drop 1 ts)) ts
+
+  given_none : (ts : List Token) → begins_with (Sign RightParenthesis) ts ≡ true
+      → given_at inner inner_atom ts ≡ shaped (none_given inner inner_atom) (exactly (Sign RightParenthesis ∷ [])) ts
+  given_none ts ends = given_cased ts ∙ ap (λ c. given_cases c (label_of ts) (cut_of ts) ts) ends
+
+  given_named : (ts : List Token) → begins_with (Sign RightParenthesis) ts ≡ false → label_of ts ≡ true
       → given_at inner inner_atom ts
       ≡ shaped by_name (closed (Sign RightParenthesis ∷ []) (listed (labelled inner inner_atom))) ts
-  given_named ts some label = given_is (front ts) (front (drop 1 ts)) ts
-      ∙ ap (λ c. given_cases c (is_label (front ts) (front (drop 1 ts))) ts) some
-      ∙ ap (λ c. given_cases false c ts) label
+  given_named ts some label = given_cased ts ∙ ap (λ c. given_cases c (label_of ts) (cut_of ts) ts) some
+      ∙ ap (λ c. given_cases false c (cut_of ts) ts) label
 
-  pub given_in_order : (ts : List Token) → begins_with (Sign RightParenthesis) ts ≡ false →
-      is_label (front ts) (front (drop 1 ts)) ≡ false
-      → given_at inner inner_atom ts ≡ shaped in_order (closed (Sign RightParenthesis ∷ []) (listed inner)) ts
-  given_in_order ts some label = given_is (front ts) (front (drop 1 ts)) ts
-      ∙ ap (λ c. given_cases c (is_label (front ts) (front (drop 1 ts))) ts) some
-      ∙ ap (λ c. given_cases false c ts) label
+  given_plain : (ts : List Token) → begins_with (Sign RightParenthesis) ts ≡ false → label_of ts ≡ false →
+      given_at inner inner_atom ts ≡ given_cases false false (cut_of ts) ts
+  given_plain ts some label = given_cased ts ∙ ap (λ c. given_cases c (label_of ts) (cut_of ts) ts) some
+      ∙ ap (λ c. given_cases false c (cut_of ts) ts) label
 
   module _ (at : Pos) (name : Placed Bytes) where
     -- what stands behind the parenthesis tells how the arguments are read
@@ -181,12 +193,19 @@ module _ (inner inner_atom : List Token → Read PlainExpression) where
     unfolding called called_by_name
     called_named ts some label = ap (λ r. r >>= joined_with name >>= built_at (call_of at)) (given_named ts some label)
 
+    pub called_cut : (ts : List Token) → begins_with (Sign RightParenthesis) ts ≡ false →
+        is_label (front ts) (front (drop 1 ts)) ≡ false → is_cut_short (front ts) (front (drop 1 ts)) ≡ true
+        → called inner inner_atom at name ts ≡ no (drop 1 ts)
+    unfolding called
+    called_cut ts some label cut = ap (λ r. r >>= joined_with name >>= built_at (call_of at))
+        (given_plain ts some label ∙ ap (λ c. given_cases false false c ts) cut)
+
     pub called_ordered : (ts : List Token) → begins_with (Sign RightParenthesis) ts ≡ false →
-        is_label (front ts) (front (drop 1 ts)) ≡ false
+        is_label (front ts) (front (drop 1 ts)) ≡ false → is_cut_short (front ts) (front (drop 1 ts)) ≡ false
         → called inner inner_atom at name ts ≡ called_in_order inner inner_atom at name ts
     unfolding called called_in_order
-    called_ordered ts some label = ap (λ r. r >>= joined_with name >>= built_at (call_of at))
-        (given_in_order ts some label)
+    called_ordered ts some label cut = ap (λ r. r >>= joined_with name >>= built_at (call_of at))
+        (given_plain ts some label ∙ ap (λ c. given_cases false false c ts) cut)
 
     -- behind the name and the parenthesis stands the rest of a call
     pub call_called : (ts mid rest : List Token) → at ≡ place_of ts → name_at ts ≡ Ok (name, mid) →
@@ -199,7 +218,7 @@ module _ (inner inner_atom : List Token → Read PlainExpression) where
         ∙ ap (λ r. r >>= given_at inner inner_atom >>= joined_with name >>= built_at (call_of (place_of ts))) open_here
         ∙ ap (λ p. given_at inner inner_atom rest >>= joined_with name >>= built_at (call_of p)) (sym place)
 
-pub ruleset called_steps = (called_none, called_named, called_ordered)
+pub ruleset called_steps = (called_none, called_named, called_cut, called_ordered)
 
 -- lists of the code's trees are those that reading builds
 pub expressions_seen : (es : List (Expr _ _ _ _)) → expressions_of (map (expression parsed) es)

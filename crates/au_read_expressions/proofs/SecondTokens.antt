@@ -14,6 +14,7 @@ use Rattle.au_syntax.specs.Expressions.{truth, path, call, named_call, borrow, b
 use Rattle.au_syntax.specs.Forms.{is_atom, is_call, formed_expression}
 use Rattle.au_syntax.specs.Plain.{Bytes, PlainExpression}
 use Rattle.au_syntax.specs.Words.{Words, begun, mark, type_words, expression_words, operator_words}
+use Rattle.au_read_expressions.specs.ExpressionReading.{goes_on}
 use Rattle.au_read_expressions.specs.Reading.{front}
 use Rattle.au_read_expressions.specs.Spelling.{Begins}
 use Rattle.au_read_expressions.proofs.Begins.{first_word, front_of}
@@ -59,21 +60,12 @@ second_join (w ∷ a) z behind some = first_join a z behind
 -- an argument that begins so is an expression
 abbrev pub plain_argument : Option What → Option What → Bool
 plain_argument (Some (Sign RightParenthesis)) second = false
-plain_argument (Some (Name bytes)) (Some (Sign FatArrow)) = false
+plain_argument (Some (Name bytes)) second = goes_on second
 plain_argument first second = true
 
-abbrev pub no_label : Option What → Bool
-no_label (Some (Sign FatArrow)) = false
-no_label what = true
-
-name_plain : (bytes : Bytes) (behind : Option What) → no_label behind ≡ true →
-    plain_argument (Some (Name bytes)) behind ≡ true
-name_plain bytes (Some (Sign FatArrow)) h = h
-name_plain bytes behind h = refl
-
-atom_plain : (e : PlainExpression) → is_atom e ≡ true → (behind : Option What) → no_label behind ≡ true →
+atom_plain : (e : PlainExpression) → is_atom e ≡ true → (behind : Option What) → goes_on behind ≡ true →
     plain_argument (first_word (expression_words e)) (second_word (expression_words e) behind) ≡ true
-atom_plain (path node name []) h behind ends = name_plain name.name behind ends
+atom_plain (path node name []) h behind ends = ends
 atom_plain (path node name (f ∷ fs)) h behind ends = refl
 atom_plain (truth node true) h behind ends = refl
 atom_plain (truth node false) h behind ends = refl
@@ -88,7 +80,7 @@ atom_plain e h behind ends = refl
 
 -- an atom with a token behind it
 joined_plain : (at : Pos) (e : PlainExpression) (y z : Words) (behind : Option What) → is_atom e ≡ true →
-    no_label (first_or y (first_or z behind)) ≡ true
+    goes_on (first_or y (first_or z behind)) ≡ true
     → plain_argument (first_word (begun at (expression_words e ++ y ++ z)))
     (second_word (begun at (expression_words e ++ y ++ z)) behind) ≡ true
 joined_plain at e y z behind h ends =
@@ -104,31 +96,31 @@ joined_plain at e y z behind h ends =
     ∙ ap (plain_argument (first_word (expression_words e))) second
     ∙ atom_plain e h (first_or y (first_or z behind)) ends
 
-operator_no_label : (op : BinaryOperator) (behind : Option What) → no_label (first_or (operator_words op) behind) ≡ true
-operator_no_label operator.Add behind = refl
-operator_no_label operator.Subtract behind = refl
-operator_no_label operator.Multiply behind = refl
-operator_no_label operator.Divide behind = refl
-operator_no_label operator.Equal behind = refl
-operator_no_label operator.NotEqual behind = refl
-operator_no_label operator.Less behind = refl
-operator_no_label operator.LessEqual behind = refl
-operator_no_label operator.Greater behind = refl
-operator_no_label operator.GreaterEqual behind = refl
-operator_no_label operator.And behind = refl
-operator_no_label operator.Or behind = refl
+operator_goes_on : (op : BinaryOperator) (behind : Option What) → goes_on (first_or (operator_words op) behind) ≡ true
+operator_goes_on operator.Add behind = refl
+operator_goes_on operator.Subtract behind = refl
+operator_goes_on operator.Multiply behind = refl
+operator_goes_on operator.Divide behind = refl
+operator_goes_on operator.Equal behind = refl
+operator_goes_on operator.NotEqual behind = refl
+operator_goes_on operator.Less behind = refl
+operator_goes_on operator.LessEqual behind = refl
+operator_goes_on operator.Greater behind = refl
+operator_goes_on operator.GreaterEqual behind = refl
+operator_goes_on operator.And behind = refl
+operator_goes_on operator.Or behind = refl
 
-expression_plain : (e : PlainExpression) → formed_expression e ≡ true → (behind : Option What) → no_label behind ≡ true
+expression_plain : (e : PlainExpression) → formed_expression e ≡ true → (behind : Option What) → goes_on behind ≡ true
     → plain_argument (first_word (expression_words e)) (second_word (expression_words e) behind) ≡ true
 expression_plain (binary node op a z) h behind ends =
     joined_plain node.at a (operator_words op) (expression_words z) behind
     (and_parts (is_atom a) (formed_expression a) (binary_good a z h).0).0
-    (operator_no_label op (first_or (expression_words z) behind))
+    (operator_goes_on op (first_or (expression_words z) behind))
 expression_plain (typed node e t) h behind ends = joined_plain node.at e (mark Colon) (type_words t) behind
     (and_parts (is_atom e) (formed_expression e) h).0 refl
 expression_plain (negation node e) h behind ends = refl
 expression_plain (choice node c a z) h behind ends = refl
-expression_plain (path node name []) h behind ends = name_plain name.name behind ends
+expression_plain (path node name []) h behind ends = ends
 expression_plain (path node name (f ∷ fs)) h behind ends = refl
 expression_plain (truth node true) h behind ends = refl
 expression_plain (truth node false) h behind ends = refl
@@ -139,7 +131,7 @@ expression_plain e h behind ends = refl
 
 -- what is an expression isn't read as a named argument
 pub begins_plain : (e : PlainExpression) (ts rest : List Token) → Begins (expression_words e) ts rest →
-    formed_expression e ≡ true → no_label (front rest) ≡ true
+    formed_expression e ≡ true → goes_on (front rest) ≡ true
     → plain_argument (front ts) (front (drop 1 ts)) ≡ true
 begins_plain e ts rest h good ends =
     ap (λ w. plain_argument w (front (drop 1 ts))) (front_of (expression_words e) ts rest (expression_some e) h)

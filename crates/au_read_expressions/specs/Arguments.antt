@@ -5,7 +5,7 @@ use Rattle.au_base.specs.declared.tokens.Sign.TheVariants.{RightParenthesis}
 use Rattle.au_base.specs.declared.tokens.Token.{Token}
 use Rattle.au_base.specs.declared.tokens.What.TheVariants.{Sign}
 use Rattle.au_read_expressions.specs.Reading.{Read, ◌>>=◌, joined_with, built_at, closed, listed, shaped}
-use Rattle.au_read_expressions.specs.ExpressionReading.{in_order, by_name, labelled, given_at, call_of}
+use Rattle.au_read_expressions.specs.ExpressionReading.{by_name, labelled, ordered, given_at, call_of}
 use Rattle.au_syntax.specs.Plain.{Bytes, PlainExpression}
 use Rattle.au_syntax.specs.declared.phases.Phase.{Ghosts}
 use Rattle.au_syntax.specs.declared.expressions.Argument.{Argument}
@@ -25,9 +25,7 @@ module _ (inner inner_atom : List Token → Read PlainExpression) (at : Pos) (na
 
   -- a call whose arguments are in order, of which there is one
   unfoldable pub called_in_order : List Token → Read PlainExpression
-  called_in_order tokens =
-      shaped in_order (closed (Sign RightParenthesis ∷ [])
-      (listed inner)) tokens >>= joined_with name >>= built_at (call_of at)
+  called_in_order tokens = ordered inner inner_atom tokens >>= joined_with name >>= built_at (call_of at)
 
   -- a call whose arguments are given by the names of parameters
   unfoldable pub called_by_name : List Token → Read PlainExpression

@@ -1,13 +1,13 @@
 -- Reading an expression.
 use Rattle.std.specs.Prelude.{ℕ, suc, Bool, true, false, nat_le, List, [], ◌∷◌, Option, Some, None, Ok, Err}
-use Rattle.std.specs.Prelude.{length, drop, cond}
+use Rattle.std.specs.Prelude.{length, drop, cond, not}
 use Prim.Native.Nat.{zero}
 use Rattle.au_base.specs.declared.places.Pos.{Pos}
 use Rattle.au_base.specs.declared.tokens.Keyword.TheVariants.{KwIf, KwThen, KwElse, KwNot, KwAnd, KwOr}
 use Rattle.au_base.specs.declared.tokens.Keyword.TheVariants.{KwTrue, KwFalse, KwNil}
 use Rattle.au_base.specs.declared.tokens.Sign.TheVariants.{FatArrow, Arrow, WriteBorrow, Reborrow, NotEqual}
 use Rattle.au_base.specs.declared.tokens.Sign.TheVariants.{LessEqual, GreaterEqual, LeftParenthesis}
-use Rattle.au_base.specs.declared.tokens.Sign.TheVariants.{RightParenthesis, LeftBracket, Colon, Dot}
+use Rattle.au_base.specs.declared.tokens.Sign.TheVariants.{RightParenthesis, LeftBracket, Colon, Comma, Dot}
 use Rattle.au_base.specs.declared.tokens.Sign.TheVariants.{ReadBorrow, Exclamation, Plus, Minus, Star, Slash}
 use Rattle.au_base.specs.declared.tokens.Sign.TheVariants.{Equal, Less, Greater}
 use Rattle.au_base.specs.declared.tokens.Token.{Token}
@@ -96,6 +96,16 @@ ends_expression (Some (Sign Arrow)) = false
 ends_expression (Some (Sign LeftParenthesis)) = false
 ends_expression other = is_none (operator_of other)
 
+-- a token that may stand behind a name with which an expression begins that is an argument
+abbrev pub goes_on : Option What → Bool
+goes_on (Some (Sign RightParenthesis)) = true
+goes_on (Some (Sign Comma)) = true
+goes_on (Some (Sign Colon)) = true
+goes_on (Some (Sign Dot)) = true
+goes_on (Some (Sign Arrow)) = true
+goes_on (Some (Sign LeftParenthesis)) = true
+goes_on other = not (is_none (operator_of other))
+
 -- lists, as trees hold them
 abbrev pub expressions_of : List PlainExpression → PlainExpressions
 expressions_of [] = no_expressions
@@ -170,13 +180,19 @@ module _ (inner inner_atom : List Token → Read PlainExpression) where
   abbrev pub none_given : Unit {0} → Given
   none_given x = in_order []
 
-  -- the arguments of a call behind its parenthesis: the next one or two tokens tell which
+  -- arguments in order, one or more
+  abbrev pub ordered : List Token → Read Given
+  ordered = shaped in_order (closed (Sign RightParenthesis ∷ []) (listed inner))
+
+  -- The arguments of a call behind its parenthesis: the next one or two tokens tell which. That a name begins an
+  -- expression, and isn't that of a parameter, is known with the token behind it.
   abbrev pub given_by : Option What → Option What → List Token → Read Given
   given_by (Some (Sign RightParenthesis)) second tokens =
       shaped none_given (exactly (Sign RightParenthesis ∷ [])) tokens
   given_by (Some (Name bytes)) (Some (Sign FatArrow)) tokens =
       shaped by_name (closed (Sign RightParenthesis ∷ []) (listed labelled)) tokens
-  given_by first second tokens = shaped in_order (closed (Sign RightParenthesis ∷ []) (listed inner)) tokens
+  given_by (Some (Name bytes)) second tokens = cond (goes_on second) (ordered tokens) (no (drop 1 tokens))
+  given_by first second tokens = ordered tokens
 
   abbrev pub given_at : List Token → Read Given
   given_at tokens = given_by (front tokens) (front (drop 1 tokens)) tokens

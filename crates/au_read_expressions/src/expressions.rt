@@ -16,7 +16,8 @@ use crate::atoms::{
     number_atom, path_atom, site, text_atom, true_atom,
 };
 use crate::first::{
-    begins_atom, begins_expression, begins_label, is_within, operator, passed, too_deep,
+    begins_atom, begins_expression, begins_label, is_cut_short, is_within, operator, passed,
+    too_deep,
 };
 use crate::{Expected, Stop, after, expect, is_sign, name, stop_before, written_type};
 use au_base::{Keyword, Sign, Token, What};
@@ -394,6 +395,9 @@ fn given(
     }
     if begins_label(tokens) {
         return given_by_name(alloc, levels, at, of, tokens);
+    }
+    if is_cut_short(tokens) {
+        return Err(stop_before(after(tokens)));
     }
     given_in_order(alloc, levels, at, of, tokens)
 }

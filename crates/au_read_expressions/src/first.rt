@@ -80,6 +80,37 @@ pub(crate) fn begins_label(tokens: &[Token]) -> bool
     }
 }
 
+/// Whether an argument begins with a name behind which no expression goes on.
+pub(crate) fn is_cut_short(tokens: &[Token]) -> bool
+    ensures { result ≡ first.is_cut_short (front tokens.now) (front (drop 1 tokens.now)) }
+{
+    match tokens {
+        [] => false,
+        [first, others @ ..] => match &first.what {
+            What::Name(_) => !goes_on(others),
+            _ => false,
+        },
+    }
+}
+
+/// Whether an expression that begins with a name, and is an argument, goes on with these tokens, or ends before
+/// them.
+fn goes_on(tokens: &[Token]) -> bool
+    ensures { result ≡ spec.goes_on (front tokens.now) }
+{
+    match tokens {
+        [] => false,
+        [first, ..] => match &first.what {
+            What::Sign(Sign::RightParenthesis | Sign::Comma | Sign::Colon) => true,
+            What::Sign(Sign::Dot | Sign::Arrow | Sign::LeftParenthesis) => true,
+            _ => match operator(tokens) {
+                Some(_) => true,
+                None => false,
+            },
+        },
+    }
+}
+
 /// Reading stops before these tokens, since the nesting passes its limit.
 pub(crate) fn passed(tokens: &[Token]) -> Stop
     ensures { result ≡ Stop.Fault (Fault.Passed (nesting_limit usual) (length tokens.now)) }
