@@ -8,16 +8,17 @@ ghost use Rattle.au_modules.specs.Programs.{ModuleParts};
 ghost use Rattle.au_modules.specs.Slots as slots;
 ghost use Rattle.au_names.specs.Meanings.{declared_by, seen};
 ghost use Rattle.au_names.specs.Known as known;
+ghost use Rattle.au_names.specs.Methods.{method_at, method_seen};
 ghost use Rattle.au_names.specs.Standing.{definition_of, standing_at, standing_seen};
 ghost use Rattle.au_syntax.specs.Views.{written};
 ghost use Rattle.au_types.specs.declared.spaces.Space.TheVariants as spaces;
 ghost use Rattle.au_types.specs.Views.{meaning};
 ghost use Rattle.au_types.specs.Meant.{meant};
 
-use au_base::{Memory, Name};
+use au_base::{Memory, Name, Text};
 use au_modules::Modules;
-use au_names::{Declared, NamedModules, PartNames, declaration, definition};
-use au_syntax::{Part, TypeText};
+use au_names::{Declared, NamedModules, PartNames, declaration};
+use au_syntax::{Parsed, Part, Signature, TypeText};
 use au_types::{DeclAt, Heads, Params, Ty};
 use std::alloc::Global;
 use std::marker::Model;
@@ -84,7 +85,14 @@ impl Resolved {
     pub fn definition(&self, at: DeclAt) -> Option<Declared<'_>>
         ensures { standing_seen result ≡ definition_of (slots.modules self.now) at }
     {
-        definition(self.named.modules(), at)
+        self.named.definition(at)
+    }
+
+    /// The first method of a name in the class with this module and number, if both are there.
+    pub fn method(&self, class: DeclAt, name: &Text) -> Option<&Signature<Parsed>>
+        ensures { method_seen result ≡ method_at (slots.modules self.now) class name.now }
+    {
+        self.named.method(class, name)
     }
 
     /// What names mean in a part of the module at a place.

@@ -132,28 +132,30 @@ places_are program table h name =
     ∙ find-placed name 0 program
     ∙ option_same (place_of program name)
 
+-- ---- what is made of items, one by one
+
+module _ {A X : Type 0} (f : A → X) where
+  -- of one item more
+  pub mapped_step : (items : List X) (xs : List A) (i : ℕ) (made : X) → items ++ map f (drop i xs) ≡ map f xs
+      → option_map f (slice_get xs i) ≡ Some made
+      → (items ++ made ∷ []) ++ map f (drop (i + 1) xs) ≡ map f xs
+  mapped_step items xs i made old here = by (slice_get xs i) refl here
+    where
+      by : (o : Option A) → slice_get xs i ≡ o → option_map f o ≡ Some made
+          → (items ++ made ∷ []) ++ map f (drop (i + 1) xs) ≡ map f xs
+      by None e h = absurd (none-some made h)
+      by (Some x) e h =
+          append_assoc items (made ∷ []) (map f (drop (i + 1) xs))
+          ∙ ap (λ n. items ++ n ∷ map f (drop (i + 1) xs)) (sym (same_Some (f x) made h))
+          ∙ ap (λ r. items ++ map f r) (sym (drop_at xs i x e))
+          ∙ old
+
+  -- of all
+  pub mapped_end : (items : List X) (xs : List A) (i : ℕ) → length xs ≤ i
+      → items ++ map f (drop i xs) ≡ map f xs → items ≡ map f xs
+  mapped_end items xs i past h = sym (ap (λ r. items ++ map f r) (drop_all i xs past) ∙ append-nil items) ∙ h
+
 -- ---- interfaces
-
--- the interface of one more module
-pub offered_step : (items : List NameTables) (program : List ModuleParts) (place : ℕ) (names : NameTables)
-    → items ++ map offers (drop place program) ≡ map offers program
-    → option_map offers (slice_get program place) ≡ Some names
-    → (items ++ names ∷ []) ++ map offers (drop (place + 1) program) ≡ map offers program
-offered_step items program place names old here = by (slice_get program place) refl here
-  where
-    by : (o : Option ModuleParts) → slice_get program place ≡ o → option_map offers o ≡ Some names
-        → (items ++ names ∷ []) ++ map offers (drop (place + 1) program) ≡ map offers program
-    by None e h = absurd (none-some names h)
-    by (Some m) e h =
-        append_assoc items (names ∷ []) (map offers (drop (place + 1) program))
-        ∙ ap (λ n. items ++ n ∷ map offers (drop (place + 1) program)) (sym (same_Some (offers m) names h))
-        ∙ ap (λ r. items ++ map offers r) (sym (drop_at program place m e))
-        ∙ old
-
-pub offered_end : (items : List NameTables) (program : List ModuleParts) (place : ℕ) → length program ≤ place
-    → items ++ map offers (drop place program) ≡ map offers program → items ≡ map offers program
-offered_end items program place past h =
-    sym (ap (λ r. items ++ map offers r) (drop_all place program past) ∙ append-nil items) ∙ h
 
 -- the declarations of an interface are those that are seen of it
 pub interface_seen : (m : ModuleParts)

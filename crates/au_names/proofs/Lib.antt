@@ -1,9 +1,11 @@
 pub mod AlongLemmas
 pub mod AmongLemmas
 pub mod DeclaredRowLemmas
+pub mod DefiningLemmas
 pub mod DefinitionLemmas
 pub mod ExportLemmas
 pub mod ImportLemmas
+pub mod MethodLemmas
 pub mod NameLemmas
 pub mod OtherLemmas
 pub mod PutLemmas

@@ -1,10 +1,8 @@
--- Which declaration is found, and which defines a type.
-use Rattle.std.proofs.Common.{◌≡◌, ℕ, zero, suc, ◌+◌, ◌-◌, ◌<◌, ◌≤◌, Bool, true, false, cond, List, [], ◌∷◌}
-use Rattle.std.proofs.Common.{◌++◌, length, map, find, drop, get_or, Option, None, Some, refl, sym, ap, ◌∙◌}
-use Rattle.std.proofs.Common.{arith, zero-add}
+-- Which declaration is found.
+use Rattle.std.proofs.Common.{◌≡◌, ℕ, zero, suc, ◌+◌, ◌-◌, ◌<◌, ◌≤◌, List, [], ◌∷◌, ◌++◌, length, map}
+use Rattle.std.proofs.Common.{get_or, Option, None, Some, refl, sym, ap, ◌∙◌, arith, zero-add}
 use Rattle.std.specs.Prelude.{slice_get}
 use Rattle.std.specs.Option.{option_map}
-use Rattle.std.proofs.lemmas.List.{drop_all, drop_more}
 use Rattle.std.proofs.lemmas.Option.{slice_get-map, slice_get_past, slice_get_read}
 use Rattle.au_base.proofs.ListLemmas.{get_left}
 use Rattle.au_syntax.specs.contracts.parsed.ParsedPhase.TheImpl.{ghosts as parsed}
@@ -12,7 +10,7 @@ use Rattle.au_syntax.specs.declared.declarations.Decl.{Decl}
 use Rattle.au_syntax.specs.declared.modules.Part.{Part}
 use Rattle.au_syntax.specs.declared.modules.Part.TheVariants.{Interface, Body}
 use Rattle.au_syntax.specs.declared.parsed.Parsed.{Parsed}
-use Rattle.au_syntax.specs.Plain.{Bytes, PlainDeclaration, PlainModule, plain_declaration}
+use Rattle.au_syntax.specs.Plain.{PlainDeclaration, PlainModule, plain_declaration}
 use Rattle.au_syntax.specs.Views.{declaration}
 use Rattle.au_modules.specs.Programs.{ModuleParts}
 use Rattle.au_modules.specs.Seen.{body_tree, interface_tree}
@@ -20,8 +18,7 @@ use Rattle.au_names.specs.Walks.{written, written_all}
 use Rattle.au_names.specs.Exporting.{declarations_seen}
 use Rattle.au_names.specs.Owned.{declarations_in}
 use Rattle.au_names.proofs.ExportLemmas.{body_seen, interface_seen}
-use Rattle.au_names.specs.Standing.{Standing, body_at, body_standing, is_named, is_whole, standing_from}
-use Rattle.au_names.specs.Standing.{standing_in, whole_name}
+use Rattle.au_names.specs.Standing.{Standing, body_at, body_standing, standing_from, standing_in}
 
 -- a declaration of the code
 abbrev pub Written : Type 0
@@ -138,52 +135,3 @@ body_found place number (Some m) seen body interface is past =
     ∙ ap (λ n. slice_get (body_standing place m) (number - n)) (sym count)
     ∙ got_behind (standing_from place Interface 0 (declarations_in m.interface)) (body_standing place m)
     number (omega arith)
-
--- ---- the first record or union of a name
-
-module _ (place : ℕ) (name : Bytes) where
-  -- what is left from an index on
-  pub left : ℕ → List Written → Option Standing
-  left i xs = find (is_whole name) (standing_from place Body i (written_all (drop i xs)))
-
-  rest_of : (xs : List Written) (i : ℕ) (x : Written) → i < length xs → x ≡ get_or xs i x
-      → written_all (drop i xs) ≡ written x ∷ written_all (drop (i + 1) xs)
-  rest_of xs i x within is =
-      ap written_all (drop_more xs i x within) ∙ ap (λ y. written y ∷ written_all (drop (i + 1) xs)) (sym is)
-
-  next_of : (xs : List Written) (i : ℕ) (x : Written) (b : Bool) → i < length xs → x ≡ get_or xs i x
-      → b ≡ is_named name (whole_name (written x))
-      → left i xs ≡ cond b (Some (stands place Body i (written x))) (left (i + 1) xs)
-  unfolding left standing_from
-  next_of xs i x b within is test =
-      ap (λ ds. find (is_whole name) (standing_from place Body i ds)) (rest_of xs i x within is)
-      ∙ ap
-      (λ c.
-      cond c (Some (stands place Body i (written x)))
-      (find (is_whole name) (standing_from place Body (i + 1) (written_all (drop (i + 1) xs)))))
-      (sym test)
-
-  pub whole_first : (xs : List Written)
-      → left 0 xs ≡ find (is_whole name) (standing_from place Body 0 (written_all xs))
-  unfolding left
-  whole_first xs = refl
-
-  pub whole_here : (xs : List Written) (i : ℕ) (x : Written) (b : Bool) → i < length xs → x ≡ get_or xs i x
-      → b ≡ is_named name (whole_name (written x)) → b ≡ true
-      → Some (stands place Body i (written x)) ≡ left i xs
-  whole_here xs i x b within is test passes =
-      sym
-      (next_of xs i x b within is test
-      ∙ ap (λ c. cond c (Some (stands place Body i (written x))) (left (i + 1) xs)) passes)
-
-  pub whole_on : (xs : List Written) (i : ℕ) (x : Written) (b : Bool) → i < length xs → x ≡ get_or xs i x
-      → b ≡ is_named name (whole_name (written x)) → b ≡ false → left (i + 1) xs ≡ left i xs
-  whole_on xs i x b within is test fails =
-      sym
-      (next_of xs i x b within is test
-      ∙ ap (λ c. cond c (Some (stands place Body i (written x))) (left (i + 1) xs)) fails)
-
-  pub whole_nowhere : (xs : List Written) (i : ℕ) → length xs ≤ i → None ≡ left i xs
-  unfolding left standing_from
-  whole_nowhere xs i past =
-      sym (ap (λ ds. find (is_whole name) (standing_from place Body i (written_all ds))) (drop_all i xs past))

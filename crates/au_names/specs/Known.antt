@@ -7,8 +7,10 @@ use Rattle.au_types.specs.declared.spaces.Space.TheVariants.{Values, Callables, 
 use Rattle.au_types.specs.declared.types.DeclAt.{DeclAt}
 use Rattle.au_types.specs.declared.headings.Head.{Head}
 use Rattle.au_modules.specs.Programs.{ModuleParts}
+use Rattle.au_names.specs.Defining.{AreDefinitions}
 use Rattle.au_names.specs.HeadsOf.{heads_of}
 use Rattle.au_names.specs.Meanings.{declared_by, seen}
+use Rattle.au_names.specs.declared.definitions.Definitions.{Definitions}
 use Rattle.au_names.specs.declared.part_names.PartNames.{PartNames}
 use Rattle.au_names.specs.declared.module_names.ModuleNames.{ModuleNames}
 
@@ -42,9 +44,10 @@ abbrev pub AreNames : List ModuleParts → List ModuleNames → Type 0
 AreNames program all =
     (place : ℕ) → slice_get all place ≡ option_map (names_of program place) (slice_get program place)
 
--- All of a program is known: what names mean in each part of each module, and the rows of its declared
--- types.
+-- All of a program is known: what names mean in each part of each module, the rows of its declared types,
+-- and what defines them.
 pub record IsResolved (program : List ModuleParts) (all : List ModuleNames)
-    (heads : List (DeclAt × Head)) : Type 0 where
+    (heads : List (DeclAt × Head)) (definitions : Definitions) : Type 0 where
   pub names : AreNames program all
   pub rows : heads ≡ heads_of program
+  pub defined : AreDefinitions definitions program

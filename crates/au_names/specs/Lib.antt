@@ -1,10 +1,12 @@
 pub mod Along
 pub mod DeclaredTypes
+pub mod Defining
 pub mod Exporting
 pub mod HeadsOf
 pub mod Importing
 pub mod Known
 pub mod Meanings
+pub mod Methods
 pub mod Owned
 pub mod Placing
 pub mod Sources

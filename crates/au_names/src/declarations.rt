@@ -1,6 +1,6 @@
-//! Where the declarations of a program stand, and by which of them its types are defined.
+//! Where the declarations of a program stand.
 
-ghost use Rattle.std.specs.Prelude.{◌≡◌, find, length, slice_get};
+ghost use Rattle.std.specs.Prelude.{◌≡◌, length, slice_get};
 ghost use Rattle.std.specs.Option.{option_copied};
 ghost use Rattle.au_names.specs.Walks.{written, written_all};
 ghost use Rattle.au_modules.specs.Seen.{body_tree, interface_tree, tree_seen};
@@ -8,7 +8,6 @@ ghost use Rattle.au_modules.specs.Slots as slots;
 ghost use Rattle.au_names.specs.Exporting.{declarations_seen};
 ghost use Rattle.au_names.specs.Standing as spec;
 ghost use Rattle.au_names.specs.Standing.{standing_from, standing_seen};
-ghost use Rattle.au_syntax.specs.declared.modules.Part.TheVariants as parts;
 
 use crate::declared_types::type_declared;
 use crate::trees::tree_of;
@@ -42,7 +41,7 @@ fn interface_at(modules: &Modules, place: u16) -> Option<&Whole<Parsed>>
 }
 
 /// The body of the module at a place, if there is one.
-fn body_at(modules: &Modules, place: u16) -> Option<&Whole<Parsed>>
+pub(crate) fn body_at(modules: &Modules, place: u16) -> Option<&Whole<Parsed>>
     ensures { tree_seen result ≡ body_tree (slice_get (slots.modules modules.now) place) }
 {
     if (place as usize) < modules.len() {
@@ -63,7 +62,7 @@ pub(crate) fn count_in(file: Option<&Whole<Parsed>>) -> usize
 }
 
 /// The declaration of an index in the file of a part of the module at a place, if both are there.
-fn declared_in<'a>(
+pub(crate) fn declared_in<'a>(
     place: u16,
     part: Part,
     file: Option<&'a Whole<Parsed>>,
@@ -116,7 +115,7 @@ pub fn declaration(modules: &Modules, at: DeclAt) -> Option<Declared<'_>>
 }
 
 /// The name of an opaque type.
-fn opaque_name(decl: &Decl<Parsed>) -> Option<&Name>
+pub(crate) fn opaque_name(decl: &Decl<Parsed>) -> Option<&Name>
     ensures { option_copied result ≡ spec.opaque_name (written decl.now) }
 {
     match type_declared(decl) {
@@ -126,65 +125,11 @@ fn opaque_name(decl: &Decl<Parsed>) -> Option<&Name>
 }
 
 /// The name of a record or a union.
-fn whole_name(decl: &Decl<Parsed>) -> Option<&Name>
+pub(crate) fn whole_name(decl: &Decl<Parsed>) -> Option<&Name>
     ensures { option_copied result ≡ spec.whole_name (written decl.now) }
 {
     match type_declared(decl) {
         None => None,
         Some(one) => { if one.opaque { None } else { Some(one.name) } }
-    }
-}
-
-/// Whether a declaration is a record or a union of this name.
-fn is_whole(name: &Name, decl: &Decl<Parsed>) -> bool
-    ensures { result ≡ spec.is_named name.now (spec.whole_name (written decl.now)) }
-{
-    match whole_name(decl) {
-        None => false,
-        Some(other) => name.as_bytes() == other.as_bytes(),
-    }
-}
-
-/// The first record or union of a name among the declarations of the body of the module at a place.
-fn whole_among<'a>(place: u16, decls: &'a Vec<Decl<Parsed>>, name: &Name) -> Option<Declared<'a>>
-    ensures { standing_seen result
-        ≡ find (spec.is_whole name.now) (standing_from place parts.Body 0 (written_all decls.now.items)) }
-{
-    for (index, decl) in decls.iter().enumerate() {
-        if is_whole(name, decl) {
-            return Some(Declared {
-                place,
-                part: Part::Body,
-                index,
-                decl,
-            });
-        }
-    }
-    None
-}
-
-/// The first record or union of a name in the body of the module at a place, if there is one.
-fn whole_in<'a>(modules: &'a Modules, place: u16, name: &Name) -> Option<Declared<'a>>
-    ensures { standing_seen result
-        ≡ find (spec.is_whole name.now) (spec.body_at place (slice_get (slots.modules modules.now) place)) }
-{
-    match body_at(modules, place) {
-        None => None,
-        Some(file) => whole_among(place, &tree_of(file).declarations, name),
-    }
-}
-
-/// The definition of the declaration with this module and number, if both are there: an opaque type is
-/// defined by the first record or union of its name in the body of its module, and all else is its own
-/// definition.
-pub fn definition(modules: &Modules, at: DeclAt) -> Option<Declared<'_>>
-    ensures { standing_seen result ≡ spec.definition_of (slots.modules modules.now) at }
-{
-    match declaration(modules, at) {
-        None => None,
-        Some(found) => match opaque_name(found.decl) {
-            None => Some(found),
-            Some(name) => whole_in(modules, found.place, name),
-        },
     }
 }

@@ -5,10 +5,12 @@
 pub mod decl_sets;
 pub mod declarations;
 pub mod declared_types;
+pub mod definitions;
 pub mod exports;
 pub mod imports;
 pub mod laws;
 mod members;
+pub mod methods;
 pub mod module_names;
 pub mod parameters;
 pub mod part_names;
@@ -21,9 +23,11 @@ mod trees;
 mod walking;
 
 pub use decl_sets::DeclSet;
-pub use declarations::{Declared, declaration, definition};
+pub use declarations::{Declared, declaration};
 pub use declared_types::{TypeDeclared, type_declared};
+pub use definitions::Definitions;
 pub use exports::{Exports, exports_of};
+pub use methods::Methods;
 pub use module_names::ModuleNames;
 pub use part_names::PartNames;
 pub use programs::NamedModules;

@@ -7,28 +7,34 @@ ghost use Rattle.au_modules.specs.Programs.{ModuleParts};
 ghost use Rattle.au_modules.specs.Slots as slots;
 ghost use Rattle.au_names.specs.Meanings.{declared_by, seen};
 ghost use Rattle.au_names.specs.Known as known;
+ghost use Rattle.au_names.specs.Methods.{method_at, method_seen};
+ghost use Rattle.au_names.specs.Standing.{definition_of, standing_seen};
 ghost use Rattle.au_syntax.specs.Views.{written};
 ghost use Rattle.au_types.specs.declared.spaces.Space.TheVariants as spaces;
 ghost use Rattle.au_types.specs.Views.{meaning};
 ghost use Rattle.au_types.specs.Meant.{meant};
 
+use crate::declarations::Declared;
+use crate::definitions::{Definitions, definition};
+use crate::methods::method;
 use crate::module_names::{ModuleNames, all_names};
 use crate::part_names::PartNames;
 use crate::walking::heads_of;
-use au_base::{Memory, Name};
+use au_base::{Memory, Name, Text};
 use au_modules::Modules;
-use au_syntax::{Part, TypeText};
+use au_syntax::{Parsed, Part, Signature, TypeText};
 use au_types::{DeclAt, Heads, Params, Scope, Table, Ty, type_meant};
 use std::alloc::Global;
 use std::marker::Model;
 
-/// The modules of a program, of which is known what names mean in each part of each of them, and the rows
-/// of its declared types. A contract sees the modules alone: all else follows from them.
+/// The modules of a program, of which is known what names mean in each part of each of them, the rows of its
+/// declared types, and what defines these. A contract sees the modules alone: all else follows from them.
 #[derive(Drop)]
 pub struct NamedModules {
     modules: Modules,
     names: Vec<ModuleNames>,
     heads: Heads,
+    definitions: Definitions,
 }
 
 impl Model for NamedModules {
@@ -43,7 +49,7 @@ impl Model for NamedModules {
 
     ghost view = { λ r. r.modules };
 
-    ghost invariant = { λ r. IsResolved (slots.modules r.modules) r.names.items r.heads };
+    ghost invariant = { λ r. IsResolved (slots.modules r.modules) r.names.items r.heads r.definitions };
 }
 
 impl NamedModules {
@@ -57,10 +63,12 @@ impl NamedModules {
     {
         let names = all_names(alloc, &modules)?;
         let heads = heads_of(alloc, &modules)?;
+        let definitions = Definitions::of(alloc, &modules)?;
         Ok(NamedModules {
             modules,
             names,
             heads,
+            definitions,
         })
     }
 
@@ -76,6 +84,22 @@ impl NamedModules {
         ensures { result ≡ self }
     {
         self.modules
+    }
+
+    /// The definition of the declaration with this module and number, if both are there: an opaque type is
+    /// defined by the first record or union of its name in the body of its module, and all else is its own
+    /// definition.
+    pub fn definition(&self, at: DeclAt) -> Option<Declared<'_>>
+        ensures { standing_seen result ≡ definition_of (slots.modules self.now) at }
+    {
+        definition(&self.modules, &self.definitions, at)
+    }
+
+    /// The first method of a name in the class with this module and number, if both are there.
+    pub fn method(&self, class: DeclAt, name: &Text) -> Option<&Signature<Parsed>>
+        ensures { method_seen result ≡ method_at (slots.modules self.now) class name.now }
+    {
+        method(&self.modules, &self.definitions.methods, class, name)
     }
 
     /// What names mean in a part of the module at a place.

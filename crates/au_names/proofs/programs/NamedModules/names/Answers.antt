@@ -8,7 +8,7 @@ use Rattle.au_names.proofs.programs.NamedModules.names.Goals as goal
 pub index-requires : goal.index-requires
 index-requires c =
     let known : Modules → Type 0 = λ m.
-    IsResolved (slots.modules m) c.self.inside.names.items c.self.inside.heads in
+    IsResolved (slots.modules m) c.self.inside.names.items c.self.inside.heads c.self.inside.definitions in
     let within : c.args.place < length c.self.inside.names.items =
     names_within (slots.modules c.args.self.now) c.self.inside.names.items c.args.place
     (subst known c.self.view_is c.self.invariant).names c.requires in
@@ -17,7 +17,7 @@ index-requires c =
 pub returns-clause-values : goal.returns-clause-values
 returns-clause-values c = λ m here.
     let known : Modules → Type 0 = λ n.
-    IsResolved (slots.modules n) c.self.inside.names.items c.self.inside.heads in
+    IsResolved (slots.modules n) c.self.inside.names.items c.self.inside.heads c.self.inside.definitions in
     ap (λ names. names.values)
     (c.in_part.ensures
     ∙ part_known (slots.modules c.args.self.now) c.self.inside.names.items c.args.place c.args.part m
@@ -26,7 +26,7 @@ returns-clause-values c = λ m here.
 pub returns-clause-callables : goal.returns-clause-callables
 returns-clause-callables c = λ m here.
     let known : Modules → Type 0 = λ n.
-    IsResolved (slots.modules n) c.self.inside.names.items c.self.inside.heads in
+    IsResolved (slots.modules n) c.self.inside.names.items c.self.inside.heads c.self.inside.definitions in
     ap (λ names. names.callables)
     (c.in_part.ensures
     ∙ part_known (slots.modules c.args.self.now) c.self.inside.names.items c.args.place c.args.part m
@@ -35,7 +35,7 @@ returns-clause-callables c = λ m here.
 pub returns-clause-types : goal.returns-clause-types
 returns-clause-types c = λ m here.
     let known : Modules → Type 0 = λ n.
-    IsResolved (slots.modules n) c.self.inside.names.items c.self.inside.heads in
+    IsResolved (slots.modules n) c.self.inside.names.items c.self.inside.heads c.self.inside.definitions in
     ap (λ names. names.types)
     (c.in_part.ensures
     ∙ part_known (slots.modules c.args.self.now) c.self.inside.names.items c.args.place c.args.part m
