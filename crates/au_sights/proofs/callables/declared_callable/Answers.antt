@@ -46,8 +46,8 @@ maker-requires-clause-stands c = (c.args.target.now.at, c.requires)
 pub case_called-requires-clause-stands : goal.case_called-requires-clause-stands
 case_called-requires-clause-stands c = (c.args.target.now.at, c.requires)
 
-pub function_called-requires-in-Function : goal.function_called-requires-in-Function
-function_called-requires-in-Function c = (c.args.target.now.at, c.requires)
+pub function_called-requires : goal.function_called-requires
+function_called-requires c = (c.args.target.now.at, c.requires)
 
 pub function_called-requires-in-FunctionBody : goal.function_called-requires-in-FunctionBody
 function_called-requires-in-FunctionBody c = (c.args.target.now.at, c.requires)
