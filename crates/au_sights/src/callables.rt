@@ -5,13 +5,14 @@ ghost use Rattle.std.specs.Option.{option_copied, option_map};
 ghost use Rattle.au_judged_types.specs.Meanings.{generics_meant, parameter};
 ghost use Rattle.au_modules.specs.Slots as slots;
 ghost use Rattle.au_names.specs.HeadsOf.{heads_of};
+ghost use Rattle.au_names.specs.Methods.{methods_in};
 ghost use Rattle.au_names.specs.Standing.{standing, standing_at, whole_name};
 ghost use Rattle.au_names.specs.Walks.{written, written_parameter, written_parameters};
 ghost use Rattle.au_typing.specs.Called as spec;
 ghost use Rattle.au_typing.specs.Written.{types_at};
 ghost use Rattle.au_promises.specs.Written.{generics_of, header_of};
 ghost use Rattle.au_sights.specs.Sights.{callable_said};
-ghost use Rattle.au_sights.specs.Steps.{Stands, method_seen, methods_of, variant_seen, variants_of};
+ghost use Rattle.au_sights.specs.Steps.{Stands, variant_seen, variants_of};
 
 use crate::called::Callable;
 use crate::makers::{callable, maker, unconstrained};
@@ -82,21 +83,6 @@ fn function_called(
     by_generics(alloc, program, found, meant, one)
 }
 
-/// The first method of a name, if there is one.
-fn method_named<'a>(
-    name: &Text,
-    methods: &'a Vec<Signature<Parsed>>,
-) -> Option<&'a Signature<Parsed>>
-    ensures { method_seen result ≡ find (spec.is_method name.now) (methods_of methods.now.items) }
-{
-    for one in methods {
-        if name.as_bytes() == one.name.name.as_bytes() {
-            return Some(one);
-        }
-    }
-    None
-}
-
 /// The type parameter of a class, which no class constrains.
 fn class_generics(alloc: Global, one: &TypeParameter<Parsed>) -> Result<Generics, Memory>
     ensures { IfOk result (λ made. made ≡ spec.unconstrained (parameter (written_parameter one.now)) ∷ []) }
@@ -126,22 +112,21 @@ fn method_of(
     by_header(alloc, program, found, generics, Some((name, at)), one)
 }
 
-/// A method of a class by its name, if there is one.
+/// A method of a class by its name, if there is one. It is found without a walk through the class.
 fn method_called(
     alloc: Global,
     program: &Resolved,
     found: &Declared,
     target: &Target,
     param: &TypeParameter<Parsed>,
-    methods: &Vec<Signature<Parsed>>,
 ) -> Result<Option<Callable>, Memory>
-    requires { Stands (slots.modules program.now) (standing found.now) }
+    requires { standing_at (slots.modules program.now) target.now.at ≡ Some (standing found.now) }
     ensures { IfOk result (λ made. option_map callable_said made
         ≡ spec.method_called (slots.modules program.now) (standing found.now) target.now.at
         (parameter (written_parameter param.now))
-        (find (spec.is_method target.now.name) (methods_of methods.now.items))) }
+        (find (spec.is_method target.now.name) (methods_in (written found.now.decl.now)))) }
 {
-    match method_named(&target.name, methods) {
+    match program.method(target.at, &target.name) {
         None => Ok(None),
         Some(one) => method_of(alloc, program, found, target.at, param, one),
     }
@@ -189,7 +174,7 @@ fn declared_callable(
     found: &Declared,
     target: &Target,
 ) -> Result<Option<Callable>, Memory>
-    requires { Stands (slots.modules program.now) (standing found.now) }
+    requires { standing_at (slots.modules program.now) target.now.at ≡ Some (standing found.now) }
     ensures { IfOk result (λ made. option_map callable_said made
         ≡ spec.declared_callable (slots.modules program.now) (standing found.now) target.now.at
         target.now.name (written found.now.decl.now)) }
@@ -204,9 +189,7 @@ fn declared_callable(
             case_called(alloc, program, found, target, &name.name, params, cases)
         }
         Decl::Function(_, generics, one) => function_called(alloc, program, found, generics, one),
-        Decl::Class(_, _, param, methods) => {
-            method_called(alloc, program, found, target, param, methods)
-        }
+        Decl::Class(_, _, param, _) => method_called(alloc, program, found, target, param),
         Decl::Instance(_, _, _, _) => Ok(None),
         Decl::ConstantBody(_, _, _, _) => Ok(None),
         Decl::FunctionBody(_, generics, one, _, _) => {

@@ -7,7 +7,7 @@ use Rattle.au_sights.specs.Sights.{callable_said}
 use Rattle.au_sights.proofs.callables.callable_at.Goals as goal
 
 pub declared_callable-requires : goal.declared_callable-requires
-declared_callable-requires c = (c.args.target.now.at, sym c.in-Some.ensures)
+declared_callable-requires c = sym c.in-Some.ensures
 
 pub returns-in-Some : goal.returns-in-Some
 returns-in-Some c =

@@ -39,3 +39,15 @@ maker-requires-clause-named c = grind (arith, record_says)
 
 pub case_called-requires-clause-named : goal.case_called-requires-clause-named
 case_called-requires-clause-named c = grind (arith, union_says)
+
+pub maker-requires-clause-stands : goal.maker-requires-clause-stands
+maker-requires-clause-stands c = (c.args.target.now.at, c.requires)
+
+pub case_called-requires-clause-stands : goal.case_called-requires-clause-stands
+case_called-requires-clause-stands c = (c.args.target.now.at, c.requires)
+
+pub function_called-requires : goal.function_called-requires
+function_called-requires c = (c.args.target.now.at, c.requires)
+
+pub function_called-requires-in-FunctionBody : goal.function_called-requires-in-FunctionBody
+function_called-requires-in-FunctionBody c = (c.args.target.now.at, c.requires)
