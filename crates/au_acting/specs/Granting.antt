@@ -58,7 +58,7 @@ module _ (B : Type 0) (types : Types) (owner : B → Option (List ℕ)) (acts : 
   abbrev pub UsesTerminals : Type 0
   UsesTerminals =
       AreDeclared types → GrantsAreAlone types → (r : Value) (t : Meaning) (z : ℕ)
-        → types.is_terminal t ≡ true
+      → types.is_terminal t ≡ true
       → is_active acts z ≡ true → IsSafe types owner acts hold type ((r, writes t (token z)) ∷ under) m w
       → (borrow : ℕ) × (to : Place) × (i : ℕ) × (r ≡ reference borrow to) × (held_at m to ≡ Some (terminal i))
       × IsSafe types owner acts hold type under m (with_use borrow w)

@@ -59,7 +59,7 @@ module _ (B : Type 0) (types : Types) (owner : B → Option (List ℕ)) (acts : 
   abbrev pub Relends : Type 0
   Relends =
       AreDeclared types → (a : Act) (older : List Act) → acts ≡ a ∷ older
-        → (frame x : ℕ) (t : Meaning) (y : ℕ)
+      → (frame x : ℕ) (t : Meaning) (y : ℕ)
       → hold frame x ≡ ready → type frame x ≡ writes t (token y) → is_active acts y ≡ true
       → IsSafe types owner acts hold type under m w
       → (borrow : ℕ) × (to : Place) × (m.at (name_of frame x) ≡ Some (reference borrow to))

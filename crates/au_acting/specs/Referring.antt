@@ -58,7 +58,7 @@ module _ (B : Type 0) (types : Types) (owner : B → Option (List ℕ)) (acts : 
   abbrev pub Moves : Type 0
   Moves =
       AreDeclared types → CasesAreAlone types → (r : Value) (t : Meaning) (z : ℕ) (path : List ℕ)
-        (u : Meaning)
+      (u : Meaning)
       → LeadsOn types t path u → is_active acts z ≡ true
       → IsSafe types owner acts hold type ((r, reads t (token z)) ∷ under) m w
       → (borrow : ℕ) × (to : Place) × (r ≡ reference borrow to)

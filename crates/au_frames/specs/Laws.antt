@@ -42,7 +42,7 @@ module _ (B : Type 0) (types : Types) (owner : B → Option (List ℕ)) (acts : 
   abbrev pub FramesEnd : Type 0
   FramesEnd =
       AreDeclared types → AreLawful types → (f : Frame) (n : ℕ)
-        → ((x : ℕ) → IsLoose types (f.hold x) (f.type x))
+      → ((x : ℕ) → IsLoose types (f.hold x) (f.type x))
       → ((x : ℕ) → n ≤ x → f.hold x ≡ empty)
       → IsSafe types owner acts (hold_at (f ∷ fs)) (type_at (f ∷ fs)) under m w
       → IsSafe types owner acts (hold_at fs) (type_at fs) under (without_frame (length fs) m) w

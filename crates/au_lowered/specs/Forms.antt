@@ -249,10 +249,10 @@ buffer_calls name =
     else if bytes_eq name (codes "insertBack")
     then of_buffer (codes "buffer" ∷ codes "element" ∷ []) (ships prim.InsertBack None)
     else if bytes_eq name (codes "length") then of_buffer (codes "buffer" ∷ []) (ships prim.Length None)
-    else if bytes_eq name (codes "removeBack") then of_buffer (codes "buffer" ∷ [])
-      (ships prim.RemoveBack None)
-    else if bytes_eq name (codes "destroyEmpty") then of_buffer (codes "buffer" ∷ [])
-      (ships prim.DestroyEmpty None)
+    else if bytes_eq name (codes "removeBack")
+    then of_buffer (codes "buffer" ∷ []) (ships prim.RemoveBack None)
+    else if bytes_eq name (codes "destroyEmpty")
+    then of_buffer (codes "buffer" ∷ []) (ships prim.DestroyEmpty None)
     else None
 
 -- `&b` and `&!b`

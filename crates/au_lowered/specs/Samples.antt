@@ -90,8 +90,8 @@ row_at at =
     else if same_place at pair then row (codes "Main:Pair") (codes "Main") false
     else if same_place at key then row (codes "Main:Key") (codes "Main") true
     else if same_place at box then row (codes "Standard.Box:Box[Nat8]") (codes "Standard.Box") true
-    else if same_place at buffer then row (codes "Standard.Buffer:Buffer[Nat8]")
-      (codes "Standard.Buffer") true
+    else if same_place at buffer
+    then row (codes "Standard.Buffer:Buffer[Nat8]") (codes "Standard.Buffer") true
     else row (codes "Main:Maybe[Nat8]") (codes "Main") false
 
 abbrev pub told_of : ClosedType → LowType

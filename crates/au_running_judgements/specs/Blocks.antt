@@ -95,7 +95,7 @@ module _ (types : Types) (owner : ClosedType → Option (List ℕ)) {I T C K : T
 
   -- These fields, of values of such types, are bound each once, by names from one on, which have these types.
   pub record AreBound (number : ℕ) (fields : List Field) (kinds : List Meaning)
-    (binds : List (Bound Bytes)) : Type 0
+      (binds : List (Bound Bytes)) : Type 0
     where
       pub many : length kinds ≡ length fields
       pub apart : AreApart (field_names fields)
@@ -107,7 +107,7 @@ module _ (types : Types) (owner : ClosedType → Option (List ℕ)) {I T C K : T
   -- A variable is lent, with whichever new token, which is active in the block that follows, and a name
   -- holds the reference.
   abbrev pub Lends : (ℕ → Bool) → ℕ → BorrowMode → Option Variable → Names → ((ℕ → Bool) → Names → Type 0)
-    → Type 0
+      → Type 0
   Lends active number m x names Block =
       (z : ℕ) → active z ≡ false → (of : Meaning)
       × Borrows types owner see known names z active m x of × IsFine number of
@@ -134,7 +134,7 @@ module _ (types : Types) (owner : ClosedType → Option (List ℕ)) {I T C K : T
         (λ u. IsNamed types owner see known names 0 active (variable_of scope r.name) (writes u region))
         × Q names
     Runs active number scope (conditional at tests) Q names = RunsTests active number scope tests names
-      × Q names
+        × Q names
     Runs active number scope (conditional_else at tests block) Q names =
         RunsTests active number scope tests names
         × RunsAll active (number + names_in_tests tests) scope block names × Q names

@@ -150,7 +150,7 @@ module _ (types : Types) (owner : ClosedType → Option (List ℕ)) {I T C K : T
           × (types.is_free (reads of region) ≡ true))
       IsOf scope (binary n op a b) t =
           Joins (operation_of op) n.note (note_of a) (IsOf scope a) (IsOf scope b)
-            ((k : ℕ) → IsKept see k scope b)
+          ((k : ℕ) → IsKept see k scope b)
           t
       IsOf scope (negation n e) t = IsOf scope e type.truth × (t ≡ type.truth)
       IsOf scope (typed n e written) t = IsOf scope e t

@@ -35,7 +35,7 @@ pub record IsRunning (sizes : List ℕ) (fs : List Frame) (size : ℕ) : Type 0 
 
 -- A world is as it should be: its store is, where names stand as these frames say, which have so many names.
 abbrev pub IsIn : Types → (ClosedType → Option (List ℕ)) → List Act → List Frame → List ℕ → Made → World
-  → Type 0
+    → Type 0
 IsIn types owner acts fs sizes under w =
     IsSound types owner acts (hold_at fs) (type_at fs) under (lying_in w) sizes w.store
 

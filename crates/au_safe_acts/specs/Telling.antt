@@ -27,20 +27,20 @@ module _ (types : Types) (owner : ClosedType → Option (List ℕ)) (acts : List
     abbrev pub TellsValuesWell : Type 0
     TellsValuesWell =
         AreTyped types → (v : Value) (t : Meaning) (tag : ℕ) (of : List Meaning)
-          → types.fields t tag ≡ Some of
+        → types.fields t tag ≡ Some of
         → IsIn types owner acts fs sizes ((v, t) ∷ under) w
         → Good owner (HasTold types t (λ u. u)) (tells_apart v w ticks)
 
     abbrev pub TellsWritersWell : Type 0
     TellsWritersWell =
         AreTyped types → (r : Value) (t : Meaning) (z tag : ℕ) (of : List Meaning)
-          → types.fields t tag ≡ Some of
+        → types.fields t tag ≡ Some of
         → is_active acts z ≡ true → IsIn types owner acts fs sizes ((r, writes t (token z)) ∷ under) w
         → Good owner (HasTold types t (λ u. writes u (token z))) (tells_apart r w ticks)
 
     abbrev pub TellsReadersWell : Type 0
     TellsReadersWell =
         AreTyped types → (r : Value) (t : Meaning) (z tag : ℕ) (of : List Meaning)
-          → types.fields t tag ≡ Some of
+        → types.fields t tag ≡ Some of
         → is_active acts z ≡ true → IsIn types owner acts fs sizes ((r, reads t (token z)) ∷ under) w
         → Good owner (HasTold types t (λ u. reads u (token z))) (tells_apart r w ticks)

@@ -49,7 +49,7 @@ module _ (types : Types) (owner : ClosedType → Option (List ℕ)) (acts : List
   abbrev pub PlainsDropWell : Type 0
   PlainsDropWell =
       AreTyped types → (v : Value) (t : Meaning) → IsBasic t
-        → IsIn types owner acts fs sizes ((v, t) ∷ under) w
+      → IsIn types owner acts fs sizes ((v, t) ∷ under) w
       → IsPlain v t × IsIn types owner acts fs sizes under w
 
   -- A truth value, and two numbers of one kind, are such.

@@ -40,11 +40,11 @@ module _ (B : Type 0) (types : Types) (owner : B → Option (List ℕ)) (acts : 
   abbrev pub GetsContents : Type 0
   GetsContents =
       AreTyped types → (r : Value) (t of : Meaning) (z : ℕ) → types.boxed t ≡ Some of
-        → is_active acts z ≡ true
+      → is_active acts z ≡ true
       → IsGood prim.BoxGet None ((r, reads t (token z)) ∷ under) (r ∷ []) (reads of (token z))
 
   abbrev pub LendsContents : Type 0
   LendsContents =
       AreTyped types → (r : Value) (t of : Meaning) (z : ℕ) → types.boxed t ≡ Some of
-        → is_active acts z ≡ true
+      → is_active acts z ≡ true
       → IsGood prim.BoxGetMut None ((r, writes t (token z)) ∷ under) (r ∷ []) (writes of (token z))

@@ -35,7 +35,7 @@ module _ (B : Type 0) (types : Types) (owner : B → Option (List ℕ)) (acts : 
   abbrev pub HaveLengths : Type 0
   HaveLengths =
       AreTyped types → (r : Value) (t of : Meaning) (z : ℕ) → types.buffered t ≡ Some of
-        → is_active acts z ≡ true
+      → is_active acts z ≡ true
       → IsGood prim.Length None ((r, reads t (token z)) ∷ under) (r ∷ []) (integer Index)
 
   abbrev pub Inserts : Type 0
@@ -47,7 +47,7 @@ module _ (B : Type 0) (types : Types) (owner : B → Option (List ℕ)) (acts : 
   abbrev pub Removes : Type 0
   Removes =
       AreTyped types → (r : Value) (t of : Meaning) (z : ℕ) → types.buffered t ≡ Some of
-        → is_active acts z ≡ true
+      → is_active acts z ≡ true
       → IsGood prim.RemoveBack None ((r, writes t (token z)) ∷ under) (r ∷ []) of
 
   abbrev pub CopiesElements : Type 0

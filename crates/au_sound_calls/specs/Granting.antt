@@ -49,7 +49,7 @@ module _ (B : Type 0) (types : Types) (owner : B → Option (List ℕ)) (acts : 
   abbrev pub WritesBytes : Type 0
   WritesBytes =
       AreTyped types → (b r : Value) (t : Meaning) (z : ℕ) → types.is_terminal t ≡ true
-        → is_active acts z ≡ true
+      → is_active acts z ≡ true
       → IsGood prim.WriteByte None ((b, integer Nat8) ∷ (r, writes t (token z)) ∷ under) (r ∷ b ∷ []) unit
 
   -- `readByte` waits, and whichever byte comes, or none, it goes well.

@@ -58,6 +58,6 @@ module _ (B : Type 0) (types : Types) (owner : B → Option (List ℕ)) (acts : 
   abbrev pub Converts : Type 0
   Converts =
       AreTyped types → (kind to : IntKind) (option : Meaning) (a : Value)
-        → IsOptionOf types option (integer to)
+      → IsOptionOf types option (integer to)
       → IsSound types owner acts hold names ((a, integer kind) ∷ under) lying sizes w
       → ComesWell option (converted_value to a)

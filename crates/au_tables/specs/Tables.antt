@@ -90,7 +90,7 @@ module _ (program : List ModuleParts) where
   -- the argument of a type of this text, which has one
   abbrev pub argument_of : Bytes → Meaning → Option Meaning
   argument_of text (named at (arguments (of_type t) no_arguments)) = if is_called text at then Some t else
-    None
+      None
   argument_of text other = None
 
   -- a type is one of this text
@@ -129,7 +129,7 @@ pub record DefinitionsFit (program : List ModuleParts) : Type 0 where
 abbrev pub is_of_births : Bytes → Bool
 is_of_births text =
     bytes_eq text box_text || bytes_eq text buffer_text || bytes_eq text terminal_text
-      || bytes_eq text root_text
+    || bytes_eq text root_text
 
 -- The shipped types whose values have births are Linear, and none of them has a definition.
 pub record BirthsAreShipped (program : List ModuleParts) : Type 0 where
