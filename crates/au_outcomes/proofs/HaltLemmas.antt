@@ -5,13 +5,15 @@ use Rattle.au_base.specs.declared.limits.Limit.{Limit}
 use Rattle.au_base.specs.declared.places.Pos.{Pos}
 use Rattle.au_base.specs.declared.tokens.Token.{Token}
 use Rattle.au_base.specs.Places.{place_after}
-use Rattle.au_fault_places.specs.Fronts.{IsFaultPlace}
-use Rattle.au_fault_places.proofs.Places.{limits_kept, passes_before, place_told, syntax_place}
-use Rattle.au_fault_places.proofs.Certain.{none_kept}
+use Rattle.au_parser.specs.Fronts.{IsFaultPlace}
+use Rattle.au_parser.specs.Passing.{PassesNone}
+use Rattle.au_parser.proofs.Places.{place_told}
+use Rattle.au_parser.proofs.Certain.{passed_told}
 use Rattle.au_lexer.specs.Cut.{Cut, Lexed, tokens, stray, passes, Lexes}
 use Rattle.au_lexer.specs.Passing.{IsWithinLimits}
 use Rattle.au_lexer.proofs.UniqueLemmas.{one_cut, one_outcome}
 use Rattle.au_parser.proofs.Keeping.{fits_none}
+use Rattle.au_parser.proofs.ReaderLaws.{one_tree}
 use Rattle.au_parser.specs.ModuleReading.{file_at}
 use Rattle.au_read_expressions.specs.Bounds.{usual}
 use Rattle.au_read_expressions.specs.Reading.{Read}
@@ -22,13 +24,12 @@ use Rattle.au_syntax.specs.Words.{Spells}
 use Rattle.au_outcomes.specs.Halts.{is_missing}
 use Rattle.au_outcomes.specs.Reading.{TokensHalt}
 use Rattle.au_outcomes.specs.Trees.{AreRead, FirstHalts, Halts, HasNoTree, HasTokens, HasTree, IsRead}
-use Rattle.au_outcomes.specs.Trees.{IsPlaceIn, PassesNone, ReadFile, place_or}
+use Rattle.au_outcomes.specs.Trees.{ReadFile, place_or}
 use Rattle.au_outcomes.specs.declared.outcomes.Outcome.{Outcome}
 use Rattle.au_outcomes.specs.declared.outcomes.Outcome.TheVariants as outcome
 use Rattle.au_outcomes.specs.Refusals.{is_refusal}
 use Rattle.au_outcomes.specs.declared.refusals.Refusal.{Refusal}
 use Rattle.au_outcomes.specs.declared.refusals.Refusal.TheVariants.{Byte, Syntax}
-use Rattle.au_outcomes.proofs.TreeLemmas.{one_tree}
 
 -- what a file halts with, by what its bytes are cut into
 abbrev Shape : ℕ → List ℕ → Lexed → Outcome → Type 0
@@ -58,56 +59,25 @@ abbrev fault_outcome : List Token → Pos → Fault → Outcome
 fault_outcome list end (reading.Syntax left) = outcome.Refused (Syntax (place_or end list (length list - left)))
 fault_outcome list end (reading.Passed limit left) = outcome.Passes limit
 
--- a limit is no fault
-no_limit : (limit : Limit) (n left : ℕ) → ◌≡◌ {A = Read PlainModule} (Err (reading.Passed limit n)) (Err (reading.Syntax left))
-    → ⊥
-no_limit limit n left e = cc
-
 -- tokens that have no tree within the limits come to the fault of the reader
 abbrev IsFaultOutcome : List Token → Pos → Outcome → Type 0
 IsFaultOutcome list end arisen = (HasTree list → ⊥)
     × ((f : Fault) × (file_at usual list ≡ Err f) × (arisen ≡ fault_outcome list end f))
 
--- where reading meets no limit, it stops at the place of the fault
-stops_there : (list : List Token) (place : ℕ) → IsFaultPlace list place → PassesNone list place →
+-- where no limit is passed, reading stops at the place of the fault
+stops_there : (list : List Token) (place : ℕ) → IsFaultPlace list place → PassesNone usual list →
     file_at usual list ≡ Err (reading.Syntax (length list - place))
 stops_there list place p none =
-    elim (place_told usual list place p) [
-      | inl e ↦ e
-      | inr w ↦ elim none [
-        | inl never ↦ absurd (never w.0.kind (w.3.0, w.3.1))
-        | inr steps ↦ absurd (steps.1 w.0 w.1 w.2)
-      ]
-    ]
-
--- where reading stops with a fault, no limit is passed before
-none_passed : (list : List Token) (left : ℕ) → file_at usual list ≡ Err (reading.Syntax left) →
-    PassesNone list (length list - left)
-none_passed list left e =
-    elim (limits_kept usual list left e) [
-      | inl kept ↦ inl (λ kind passed. none_kept usual list passed.0 kind passed.1 (length list - left) kept
-          (passes_before usual list passed.0 (length list - left) kind passed.1 (syntax_place usual list left e)))
-      | inr arrow ↦ inr (arrow, λ limit n d. no_limit limit n left (sym d ∙ e))
-    ]
+    elim (place_told usual list place p) [ inl e ↦ e | inr w ↦ absurd (none w.0 (w.3.0, w.3.1)) ]
 
 there_again : (list : List Token) (place : ℕ) → IsFaultPlace list place → place ≡ length list - (length list - place)
 there_again list place p = let h = p.within in omega (arith, h)
 
--- what reading stops at is the place of the fault
-pub place_found : (list : List Token) (end at : Pos) (left index : ℕ) → file_at usual list ≡ Err (reading.Syntax left) →
-    index ≡ length list - left → at ≡ place_or end list index → IsPlaceIn list end at
-place_found list end at left index e is there = (
-  length list - left,
-  syntax_place usual list left e,
-  none_passed list left e,
-  there ∙ ap (place_or end list) is,
-)
-
 fault_of : (list : List Token) (end : Pos) (arisen : Outcome) → TokensHalt list end arisen →
     IsFaultOutcome list end arisen
 fault_of list end (outcome.Passes limit) h = (
-  λ tree. fits_none tree.0 limit tree.3 (h.0 tree.0 tree.1 tree.2),
-  (reading.Passed limit h.1.0, h.1.1, refl),
+  λ tree. fits_none tree.0 limit tree.3 (h.1 tree.0 tree.1 tree.2),
+  let told = passed_told usual list h.0.0 limit h.0.1 in (reading.Passed limit told.0, told.1, refl),
 )
 fault_of list end (outcome.Refused (Syntax at)) h = (
   λ tree. h.0 tree.0 tree.1 tree.2,

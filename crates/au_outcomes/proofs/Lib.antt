@@ -1,5 +1,4 @@
 pub mod FetchLemmas
-pub mod TreeLemmas
 pub mod HaltLemmas
 pub mod FaultLemmas
 pub mod BytesLemmas

@@ -1,18 +1,15 @@
 -- Which tokens have a tree, and what tokens come to.
-use Rattle.std.specs.Prelude.{◌≡◌, ◌⊎◌, ℕ, ◌+◌, List, [], ◌∷◌, Err, IsTrue, take, unwrap_or, slice_get}
+use Rattle.std.specs.Prelude.{◌≡◌, ◌⊎◌, ℕ, ◌+◌, List, [], ◌∷◌, IsTrue, unwrap_or, slice_get}
 use Rattle.std.specs.Option.{option_map}
 use Rattle.au_base.specs.declared.limits.Limit.{Limit}
-use Rattle.au_base.specs.declared.limits.LimitKind.{LimitKind}
 use Rattle.au_base.specs.declared.places.Pos.{Pos}
 use Rattle.au_base.specs.declared.tokens.Token.{Token}
 use Rattle.au_base.specs.Places.{place_after}
-use Rattle.au_fault_places.specs.Fronts.{IsFaultPlace}
-use Rattle.au_fault_places.specs.Passing.{EndsWithArrow, PassesAt}
 use Rattle.au_lexer.specs.Cut.{Cut, IsStray, PassesLimit}
 use Rattle.au_lexer.specs.Passing.{IsWithinLimits}
-use Rattle.au_parser.specs.ModuleReading.{file_at}
+use Rattle.au_parser.specs.Fronts.{IsFaultPlace}
+use Rattle.au_parser.specs.Passing.{IsPassed, PassesNone}
 use Rattle.au_read_expressions.specs.Bounds.{ModulePasses, usual}
-use Rattle.au_read_expressions.specs.declared.faults.Fault.TheVariants as reading
 use Rattle.au_syntax.specs.Forms.{formed_module}
 use Rattle.au_syntax.specs.Plain.{PlainModule}
 use Rattle.au_syntax.specs.Sizes.{fits}
@@ -29,37 +26,23 @@ HasTree tokens = (m : PlainModule) × IsTrue (formed_module m) × Spells m token
 abbrev pub HasNoTree : List Token → Type 0
 HasNoTree tokens = (m : PlainModule) → IsTrue (formed_module m) → Spells m tokens → ⊥
 
--- Some file begins with the tokens through one of these, and passes a limit of this kind first, with that token. There
--- is one such kind at most, at one token, whatever stands behind it: a law of `au_fault_places`.
-abbrev pub IsPassed : List Token → LimitKind → Type 0
-IsPassed tokens kind = (place : ℕ) × PassesAt usual tokens place kind
-
--- Whatever tree has these words passes this limit, and it's of the kind that is passed first. How many nodes a type has
--- that passes their limit is stated by the steps of the reader.
+-- Some file begins with the tokens through one of these, and passes this limit first, with that token. There is one such
+-- limit at most, at one token, whatever stands behind it: a law of `au_parser`. And whatever tree has these words passes
+-- it.
 abbrev pub TreesPass : List Token → Limit → Type 0
 TreesPass tokens limit =
-    ((m : PlainModule) → IsTrue (formed_module m) → Spells m tokens → ModulePasses usual m limit)
-    × ((left : ℕ) × (file_at usual tokens ≡ Err (reading.Passed limit left)))
-    × IsPassed tokens limit.kind
+    IsPassed usual tokens limit
+    × ((m : PlainModule) → IsTrue (formed_module m) → Spells m tokens → ModulePasses usual m limit)
 
 -- the place of a token, or the end of the file behind the last one
 abbrev pub place_or : Pos → List Token → ℕ → Pos
 place_or end tokens index = unwrap_or (option_map (λ (token : Token). token.at) (slice_get tokens index)) end
 
--- Reading meets no limit.
-abbrev pub MeetsNoLimit : List Token → Type 0
-MeetsNoLimit tokens = (limit : Limit) (left : ℕ) → file_at usual tokens ≡ Err (reading.Passed limit left) → ⊥
-
--- No limit is passed before the place of a fault; where the fault stands right behind `=>`, by the steps of the reader.
-abbrev pub PassesNone : List Token → ℕ → Type 0
-PassesNone tokens place =
-    ((kind : LimitKind) → IsPassed tokens kind → ⊥) ⊎ (EndsWithArrow (take place tokens) × MeetsNoLimit tokens)
-
 -- The place of the first token that no file has behind those before it, or the end where the file ends too early;
--- and no limit is passed before it.
+-- and no limit is passed.
 abbrev pub IsPlaceIn : List Token → Pos → Pos → Type 0
 IsPlaceIn tokens end at =
-    (place : ℕ) × IsFaultPlace tokens place × PassesNone tokens place × (at ≡ place_or end tokens place)
+    (place : ℕ) × IsFaultPlace tokens place × PassesNone usual tokens × (at ≡ place_or end tokens place)
 
 -- a file that was read: its tokens, the place of its end, and its tree
 pub record ReadFile : Type 0 where

@@ -10,4 +10,31 @@ pub mod CodeNames
 mod PlainTrees
 pub mod Keeping
 mod FileLaws
-mod ReaderLaws
+pub mod ReaderLaws
+pub mod Told
+pub mod Ways
+pub mod Turns
+pub mod FirstTokens
+pub mod Lists
+pub mod Single
+pub mod Levels
+pub mod TypeDepths
+pub mod TypeCounts
+pub mod SameTypes
+pub mod TypeReach
+pub mod TypeReaders
+pub mod ExpressionKinds
+pub mod Arguments
+pub mod Atoms
+pub mod Expressions
+pub mod ExpressionLevels
+pub mod Rows
+pub mod StatementParts
+pub mod Conditionals
+pub mod Statements
+pub mod DeclarationParts
+pub mod DeclarationReaders
+pub mod Files
+pub mod SameWords
+pub mod Places
+pub mod Certain

@@ -1,12 +1,15 @@
-use Rattle.std.proofs.Common.{◌≡◌, refl, sym, ap, ◌∙◌, subst, arith}
+use Rattle.std.proofs.Common.{◌≡◌, ◌-◌, length, refl, sym, ap, ◌∙◌, subst, arith}
 use Rattle.au_syntax.specs.contracts.parsed.ParsedPhase.TheImpl.{ghosts as parsed}
 use Rattle.au_syntax.specs.Files.{says}
 use Rattle.au_syntax.specs.Words.{Spells}
-use Rattle.au_read_expressions.specs.Bounds.{usual, ModulePasses}
+use Rattle.au_read_expressions.specs.Bounds.{usual}
 use Rattle.au_read_expressions.specs.declared.faults.Fault.TheVariants.{Syntax, Passed}
 use Rattle.au_parser.specs.ModuleReading.{file_at}
 use Rattle.au_parser.proofs.FileLaws.{stopped, tree_spelled, tree_formed, tree_within, tree_only}
-use Rattle.au_parser.proofs.FileLaws.{none_spelled, limit_passed, none_within}
+use Rattle.au_parser.proofs.FileLaws.{limit_passed, none_within}
+use Rattle.au_parser.proofs.Places.{limit_place, syntax_place}
+use Rattle.au_parser.proofs.Certain.{passes_none}
+use Rattle.au_parser.specs.Fronts.{IsFaultPlace}
 use Rattle.au_parser.proofs.ReaderLaws.{file_sound, file_found}
 use Rattle.au_parser.proofs.PlainTrees.{ParsedModule, is_noted}
 use Rattle.au_parser.proofs.parsing.parse.Goals as goal
@@ -31,13 +34,15 @@ returns-in-Ok-clause-only c = λ m good spelled small.
     c.in-Ok.ensures m good spelled small
 
 pub returns-in-Err-Fault-Passed-clause-limit : goal.returns-in-Err-Fault-Passed-clause-limit
-returns-in-Err-Fault-Passed-clause-limit c = λ l is m good spelled.
+returns-in-Err-Fault-Passed-clause-limit c = λ l is.
     let same : c.in-Err-Fault-Passed.limit ≡ l = cc in
-    subst (ModulePasses usual m) same
-    (limit_passed file_sound file_found c.args.tokens.now c.in-Err-Fault-Passed.limit c.in-Err-Fault-Passed.field-0-0-1
-    (stopped c.in-Err-Fault-Passed.field-0 c.in-Err-Fault-Passed.field-0-0
-    (Passed c.in-Err-Fault-Passed.limit c.in-Err-Fault-Passed.field-0-0-1) (file_at usual c.args.tokens.now)
-    c.in-Err-Fault-Passed.ensures c.in-Err-Fault-Passed.field-0-is c.in-Err-Fault-Passed.field-0-0-is) m good spelled)
+    let read = stopped c.in-Err-Fault-Passed.field-0 c.in-Err-Fault-Passed.field-0-0
+    (Passed l c.in-Err-Fault-Passed.field-0-0-1) (file_at usual c.args.tokens.now)
+    c.in-Err-Fault-Passed.ensures c.in-Err-Fault-Passed.field-0-is
+    (c.in-Err-Fault-Passed.field-0-0-is ∙ ap (λ x. Passed x c.in-Err-Fault-Passed.field-0-0-1) same) in (
+      limit_place usual c.args.tokens.now l c.in-Err-Fault-Passed.field-0-0-1 read,
+      limit_passed file_sound file_found c.args.tokens.now l c.in-Err-Fault-Passed.field-0-0-1 read,
+    )
 
 pub returns-in-Err-Fault-Passed-clause-only : goal.returns-in-Err-Fault-Passed-clause-only
 returns-in-Err-Fault-Passed-clause-only c = λ m good spelled small.
@@ -49,12 +54,14 @@ returns-in-Err-Fault-Passed-clause-only c = λ m good spelled small.
 
 pub returns-in-Err-Fault-Syntax-clause-syntax : goal.returns-in-Err-Fault-Syntax-clause-syntax
 returns-in-Err-Fault-Syntax-clause-syntax c = λ index is.
-    let here : c.saturating_sub.result ≡ index = cc in (
-      omega (arith, here, c.saturating_sub.ensures),
-      none_spelled file_sound file_found c.args.tokens.now c.in-Err-Fault-Syntax.left
-          (stopped c.in-Err-Fault-Syntax.field-0 c.in-Err-Fault-Syntax.field-0-0
-          (Syntax c.in-Err-Fault-Syntax.left) (file_at usual c.args.tokens.now)
-          c.in-Err-Fault-Syntax.ensures c.in-Err-Fault-Syntax.field-0-is c.in-Err-Fault-Syntax.field-0-0-is),
+    let here : c.saturating_sub.result ≡ index = cc in
+    let left = c.in-Err-Fault-Syntax.left in
+    let read = stopped c.in-Err-Fault-Syntax.field-0 c.in-Err-Fault-Syntax.field-0-0
+    (Syntax left) (file_at usual c.args.tokens.now)
+    c.in-Err-Fault-Syntax.ensures c.in-Err-Fault-Syntax.field-0-is c.in-Err-Fault-Syntax.field-0-0-is in
+    let place : length c.args.tokens.now - left ≡ index = omega (arith, here, c.saturating_sub.ensures) in (
+      subst (IsFaultPlace c.args.tokens.now) place (syntax_place usual c.args.tokens.now left read),
+      passes_none usual c.args.tokens.now left read,
     )
 
 pub returns-in-Err-Fault-Syntax-clause-only : goal.returns-in-Err-Fault-Syntax-clause-only
@@ -64,23 +71,3 @@ returns-in-Err-Fault-Syntax-clause-only c = λ m good spelled small.
     (stopped c.in-Err-Fault-Syntax.field-0 c.in-Err-Fault-Syntax.field-0-0 c.in-Err-Fault-Syntax.field-0-0
     (file_at usual c.args.tokens.now)
     c.in-Err-Fault-Syntax.ensures c.in-Err-Fault-Syntax.field-0-is refl) m good spelled small)
-
-pub returns-in-Err-Fault-Passed-clause-passes : goal.returns-in-Err-Fault-Passed-clause-passes
-returns-in-Err-Fault-Passed-clause-passes c = λ l is.
-    let same : c.in-Err-Fault-Passed.limit ≡ l = cc in (
-      c.in-Err-Fault-Passed.field-0-0-1,
-      stopped c.in-Err-Fault-Passed.field-0 c.in-Err-Fault-Passed.field-0-0
-          (Passed l c.in-Err-Fault-Passed.field-0-0-1) (file_at usual c.args.tokens.now)
-          c.in-Err-Fault-Passed.ensures c.in-Err-Fault-Passed.field-0-is
-          (c.in-Err-Fault-Passed.field-0-0-is ∙ ap (λ x. Passed x c.in-Err-Fault-Passed.field-0-0-1) same),
-    )
-
-pub returns-in-Err-Fault-Syntax-clause-stops : goal.returns-in-Err-Fault-Syntax-clause-stops
-returns-in-Err-Fault-Syntax-clause-stops c = λ index is.
-    let here : c.saturating_sub.result ≡ index = cc in (
-      c.in-Err-Fault-Syntax.left,
-      stopped c.in-Err-Fault-Syntax.field-0 c.in-Err-Fault-Syntax.field-0-0
-          (Syntax c.in-Err-Fault-Syntax.left) (file_at usual c.args.tokens.now)
-          c.in-Err-Fault-Syntax.ensures c.in-Err-Fault-Syntax.field-0-is c.in-Err-Fault-Syntax.field-0-0-is,
-      omega (arith, here, c.saturating_sub.ensures),
-    )
