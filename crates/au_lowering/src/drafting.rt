@@ -22,7 +22,7 @@ use au_base::Memory;
 use au_closed_meanings::Lookup;
 use au_closed_programs::ClosedFunction;
 use au_closed_trees::{ClosedField, ClosedTrees};
-use au_lowering_statements::{Draft, Local, Writer, declare, further, room_of_block, write_block};
+use au_lowering_statements::{Draft, Locals, Writer, declare, further, room_of_block, write_block};
 use au_syntax::Block;
 use au_type_texts::copy_closed;
 use std::alloc::Global;
@@ -30,12 +30,12 @@ use std::alloc::Global;
 /// Declares a parameter in a slot.
 fn declare_parameter(
     alloc: Global,
-    scope: &mut Vec<Local>,
+    scope: &mut Locals,
     slot: u32,
     one: &ClosedField,
 ) -> Result<(), Memory>
-    ensures { OnOk result (scope_said scope.new.items
-        ≡ with_name one.now.name slot (Some (closed_meaning one.now.of)) (scope_said scope.old.items)) }
+    ensures { OnOk result (scope_said scope.new
+        ≡ with_name one.now.name slot (Some (closed_meaning one.now.of)) (scope_said scope.old)) }
 {
     let of = copy_closed(alloc, &one.of)?;
     declare(alloc, scope, &one.name, slot, Some(of))
@@ -44,12 +44,12 @@ fn declare_parameter(
 /// Declares parameters, which have the first slots, and answers how many there are.
 fn declare_parameters(
     alloc: Global,
-    scope: &mut Vec<Local>,
+    scope: &mut Locals,
     parameters: &Vec<ClosedField>,
 ) -> Result<u32, Memory>
     ensures count { IfOk result (λ count. count ≡ length parameters.now.items) }
-    ensures said { OnOk result (scope_said scope.new.items
-        ≡ with_parameters 0 (fields_seen (fields_said parameters.now.items)) (scope_said scope.old.items)) }
+    ensures said { OnOk result (scope_said scope.new
+        ≡ with_parameters 0 (fields_seen (fields_said parameters.now.items)) (scope_said scope.old)) }
 {
     let mut slot = 0;
     for one in parameters {
@@ -65,11 +65,11 @@ fn body_of<R: Lookup>(
     alloc: Global,
     lookup: &R,
     params: u32,
-    scope: &mut Vec<Local>,
+    scope: &mut Locals,
     of: &Block<ClosedTrees>,
 ) -> Result<Vec<Draft>, Memory>
     ensures { IfOk result (λ made. drafts_said made.items
-        ≡ statements.block (view_in (R.round lookup.now)) 0 params (scope_said scope.old.items)
+        ≡ statements.block (view_in (R.round lookup.now)) 0 params (scope_said scope.old)
         (block closed of.now) 0) }
 {
     let mut out = Vec::new(alloc);
@@ -99,7 +99,7 @@ fn draft_function(
         rows,
         home: &one.home,
     };
-    let mut scope = Vec::new(alloc);
+    let mut scope = Locals::new(alloc);
     let params = declare_parameters(alloc, &mut scope, &one.parameters)?;
     let slots = room_of_block(&lookup, params, &one.body)?;
     let drafts = body_of(alloc, &lookup, params, &mut scope, &one.body)?;

@@ -2,3 +2,4 @@ pub mod WroteLemmas
 pub mod CodeLemmas
 pub mod PartLemmas
 pub mod LoopLemmas
+pub mod InnermostLemmas

@@ -1,3 +1,4 @@
 pub mod Wrote
 pub mod Parts
 pub mod Views
+pub mod Innermost

@@ -18,7 +18,7 @@ use crate::drafts::{Draft, end_jump, end_test, put};
 use crate::leaves::{
     put_alone, put_borrow, put_integer, put_negative, put_part, put_path, put_read, put_text,
 };
-use crate::locals::Local;
+use crate::locals::Locals;
 use crate::opening::opens;
 use crate::operations::{Operation, operation_of};
 use crate::types::{compared_kind, kind_in};
@@ -105,7 +105,7 @@ fn end_first(out: &mut Vec<Draft>, test: usize) -> Result<(), Memory>
 fn write_first<R: Lookup>(
     alloc: Global,
     lookup: &R,
-    scope: &[Local],
+    scope: &Locals,
     of: &Expr<ClosedTrees>,
     out: &mut Vec<Draft>,
 ) -> Result<usize, Memory>
@@ -126,7 +126,7 @@ fn write_first<R: Lookup>(
 fn write_and<R: Lookup>(
     alloc: Global,
     lookup: &R,
-    scope: &[Local],
+    scope: &Locals,
     second: &Expr<ClosedTrees>,
     out: &mut Vec<Draft>,
 ) -> Result<(), Memory>
@@ -146,7 +146,7 @@ fn write_and<R: Lookup>(
 fn write_or<R: Lookup>(
     alloc: Global,
     lookup: &R,
-    scope: &[Local],
+    scope: &Locals,
     second: &Expr<ClosedTrees>,
     out: &mut Vec<Draft>,
 ) -> Result<(), Memory>
@@ -166,7 +166,7 @@ fn write_or<R: Lookup>(
 fn write_computed<R: Lookup>(
     alloc: Global,
     lookup: &R,
-    scope: &[Local],
+    scope: &Locals,
     op: IntOp,
     whole: &ClosedNote,
     second: &Expr<ClosedTrees>,
@@ -186,7 +186,7 @@ fn write_computed<R: Lookup>(
 fn write_compared<R: Lookup>(
     alloc: Global,
     lookup: &R,
-    scope: &[Local],
+    scope: &Locals,
     order: Order,
     first: &ClosedNote,
     second: &Expr<ClosedTrees>,
@@ -217,7 +217,7 @@ struct Operated<'a> {
 fn write_second<R: Lookup>(
     alloc: Global,
     lookup: &R,
-    scope: &[Local],
+    scope: &Locals,
     of: &Operated,
     second: &Expr<ClosedTrees>,
     out: &mut Vec<Draft>,
@@ -243,7 +243,7 @@ fn write_second<R: Lookup>(
 fn write_operand<R: Lookup>(
     alloc: Global,
     lookup: &R,
-    scope: &[Local],
+    scope: &Locals,
     of: &Expr<ClosedTrees>,
     out: &mut Vec<Draft>,
 ) -> Result<(), Memory>
@@ -265,7 +265,7 @@ fn write_operand<R: Lookup>(
 fn write<R: Lookup>(
     alloc: Global,
     lookup: &R,
-    scope: &[Local],
+    scope: &Locals,
     of: &Expr<ClosedTrees>,
     out: &mut Vec<Draft>,
 ) -> Result<(), Memory>
@@ -329,7 +329,7 @@ fn write<R: Lookup>(
 fn write_all<R: Lookup>(
     alloc: Global,
     lookup: &R,
-    scope: &[Local],
+    scope: &Locals,
     all: &Vec<Expr<ClosedTrees>>,
     out: &mut Vec<Draft>,
 ) -> Result<(), Memory>
@@ -348,7 +348,7 @@ fn write_all<R: Lookup>(
 fn write_argument<R: Lookup>(
     alloc: Global,
     lookup: &R,
-    scope: &[Local],
+    scope: &Locals,
     of: &Argument<ClosedTrees>,
     out: &mut Vec<Draft>,
 ) -> Result<(), Memory>
@@ -364,7 +364,7 @@ fn write_argument<R: Lookup>(
 fn write_arguments<R: Lookup>(
     alloc: Global,
     lookup: &R,
-    scope: &[Local],
+    scope: &Locals,
     all: &Vec<Argument<ClosedTrees>>,
     out: &mut Vec<Draft>,
 ) -> Result<(), Memory>
@@ -398,7 +398,7 @@ fn put_closing(out: &mut Vec<Draft>, opens: bool, around: u32) -> Result<(), Mem
 pub fn write_expression<R: Lookup>(
     alloc: Global,
     lookup: &R,
-    scope: &[Local],
+    scope: &Locals,
     of: &Expr<ClosedTrees>,
     out: &mut Vec<Draft>,
 ) -> Result<(), Memory>
@@ -417,7 +417,7 @@ pub fn write_expression<R: Lookup>(
 pub fn write_whole<R: Lookup>(
     alloc: Global,
     lookup: &R,
-    scope: &[Local],
+    scope: &Locals,
     around: u32,
     of: &Expr<ClosedTrees>,
     out: &mut Vec<Draft>,

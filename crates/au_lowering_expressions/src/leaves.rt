@@ -18,7 +18,7 @@ ghost use Rattle.au_meaning.specs.Names.{variable_of};
 ghost use Rattle.au_syntax.specs.Views.{expression, placed};
 
 use crate::drafts::{Draft, put, put_draft};
-use crate::locals::{Local, find_local};
+use crate::locals::{Local, Locals};
 use crate::parts::{part_of, part_past};
 use crate::types::kind_in;
 use au_base::{Memory, Name, Sequence, Text};
@@ -147,7 +147,7 @@ fn put_taken(alloc: Global, free: bool, one: &Local, out: &mut Vec<Draft>) -> Re
 fn put_mention<R: Lookup>(
     alloc: Global,
     _lookup: &R,
-    scope: &[Local],
+    scope: &Locals,
     note: &ClosedNote,
     name: &Name,
     out: &mut Vec<Draft>,
@@ -156,7 +156,7 @@ fn put_mention<R: Lookup>(
         ≡ wrote (spec.mention (view_in (R.round _lookup.now)) (closed_note note.now)
         (variable_of (scope_said scope.now) name.now) name.now) (drafts_said out.old.items)) }
 {
-    match find_local(scope, name) {
+    match scope.find(name) {
         None => put_constant(alloc, note, out),
         Some(one) => put_taken(alloc, is_free(note), one, out),
     }
@@ -166,7 +166,7 @@ fn put_mention<R: Lookup>(
 fn put_look<R: Lookup>(
     alloc: Global,
     lookup: &R,
-    scope: &[Local],
+    scope: &Locals,
     name: &Name,
     fields: &Vec<Ident<ClosedTrees>>,
     out: &mut Vec<Draft>,
@@ -195,7 +195,7 @@ fn put_look<R: Lookup>(
 pub fn put_path<R: Lookup>(
     alloc: Global,
     lookup: &R,
-    scope: &[Local],
+    scope: &Locals,
     note: &ClosedNote,
     name: &Name,
     fields: &Vec<Ident<ClosedTrees>>,
@@ -221,7 +221,7 @@ pub fn put_path<R: Lookup>(
 pub fn put_read<R: Lookup>(
     alloc: Global,
     lookup: &R,
-    scope: &[Local],
+    scope: &Locals,
     name: &Name,
     fields: &Vec<Ident<ClosedTrees>>,
     out: &mut Vec<Draft>,
@@ -250,7 +250,7 @@ pub fn put_read<R: Lookup>(
 pub fn put_part<R: Lookup>(
     alloc: Global,
     lookup: &R,
-    scope: &[Local],
+    scope: &Locals,
     name: &Name,
     fields: &Vec<Ident<ClosedTrees>>,
     out: &mut Vec<Draft>,
@@ -301,7 +301,7 @@ fn put_opening(mode: BorrowMode, slot: u32, out: &mut Vec<Draft>) -> Result<(), 
 ///
 /// Only for want of memory.
 pub fn put_borrow(
-    scope: &[Local],
+    scope: &Locals,
     mode: BorrowMode,
     name: &Name,
     out: &mut Vec<Draft>,
@@ -310,7 +310,7 @@ pub fn put_borrow(
         ≡ wrote (given (variable_of (scope_said scope.now) name.now) (spec.borrows mode))
         (drafts_said out.old.items)) }
 {
-    match find_local(scope, name) {
+    match scope.find(name) {
         None => Ok(()),
         Some(one) => put_opening(mode, one.slot, out),
     }
@@ -318,14 +318,14 @@ pub fn put_borrow(
 
 /// The variable that stands alone or in parentheses.
 #[tactic(auto, using(au_syntax::proofs::ExpressionLemmas::expression_steps))]
-fn alone<'a>(scope: &'a [Local], of: &Expr<ClosedTrees>) -> Option<&'a Local>
+fn alone<'a>(scope: &'a Locals, of: &Expr<ClosedTrees>) -> Option<&'a Local>
     ensures { option_map local_said (option_copied result)
         ≡ alone_in (scope_said scope.now) (expression closed of.now) }
 {
     match of {
         Expr::Path(_, name, fields) => {
             if fields.is_empty() {
-                find_local(scope, &name.name)
+                scope.find(&name.name)
             } else {
                 None
             }
@@ -357,7 +357,7 @@ fn alone<'a>(scope: &'a [Local], of: &Expr<ClosedTrees>) -> Option<&'a Local>
 /// Only for want of memory.
 pub fn put_alone(
     alloc: Global,
-    scope: &[Local],
+    scope: &Locals,
     of: &Expr<ClosedTrees>,
     out: &mut Vec<Draft>,
 ) -> Result<bool, Memory>

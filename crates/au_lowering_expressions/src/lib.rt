@@ -11,9 +11,10 @@ pub mod opening;
 pub mod operations;
 pub mod orders;
 pub mod parts;
+mod places;
 pub mod types;
 
 pub use drafts::{Draft, end_jump, end_test, here, patch, put, put_draft};
 pub use expressions::{note_of, write_expression, write_whole};
-pub use locals::{Local, find_local};
+pub use locals::{Local, Locals};
 pub use parts::{Part, part_of, part_past};

@@ -12,7 +12,7 @@ ghost use Rattle.au_meaning.specs.Expressions.{names_of};
 ghost use Rattle.au_meaning.specs.Names.{variable_of};
 ghost use Rattle.au_syntax.specs.Views.{placed};
 
-use crate::locals::{Local, find_local};
+use crate::locals::Locals;
 use crate::types::target_behind;
 use au_base::{Memory, Name, Sequence};
 use au_closed_meanings::Lookup;
@@ -94,7 +94,7 @@ fn with_path(slot: u32, path: Option<Sequence<u32>>) -> Option<Part>
 pub fn part_of<R: Lookup>(
     alloc: Global,
     lookup: &R,
-    scope: &[Local],
+    scope: &Locals,
     name: &Name,
     path: &Vec<Ident<ClosedTrees>>,
 ) -> Result<Option<Part>, Memory>
@@ -102,7 +102,7 @@ pub fn part_of<R: Lookup>(
         ≡ spec.part_in (view_in (R.round lookup.now)) (variable_of (scope_said scope.now) name.now)
         (names_of (map (placed closed) path.now.items))) }
 {
-    match find_local(scope, name) {
+    match scope.find(name) {
         None => Ok(None),
         Some(found) => {
             let numbers = numbers_of(alloc, lookup, found.of.as_ref(), path)?;
@@ -119,7 +119,7 @@ pub fn part_of<R: Lookup>(
 pub fn part_past<R: Lookup>(
     alloc: Global,
     lookup: &R,
-    scope: &[Local],
+    scope: &Locals,
     name: &Name,
     path: &Vec<Ident<ClosedTrees>>,
 ) -> Result<Option<Part>, Memory>
@@ -127,7 +127,7 @@ pub fn part_past<R: Lookup>(
         ≡ spec.part_past (view_in (R.round lookup.now)) (variable_of (scope_said scope.now) name.now)
         (names_of (map (placed closed) path.now.items))) }
 {
-    match find_local(scope, name) {
+    match scope.find(name) {
         None => Ok(None),
         Some(found) => {
             let numbers = numbers_of(alloc, lookup, target_behind(&found.of), path)?;

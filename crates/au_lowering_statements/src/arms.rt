@@ -22,7 +22,7 @@ use au_base::{Memory, Name, Sequence};
 use au_closed_meanings::Lookup;
 use au_closed_trees::{ClosedNote, ClosedTrees};
 use au_low::Instr;
-use au_lowering_expressions::{Draft, Local, here, patch, put};
+use au_lowering_expressions::{Draft, Locals, here, patch, put};
 use au_syntax::Bind;
 use std::alloc::Global;
 
@@ -76,16 +76,16 @@ pub fn enter_arm<R: Lookup>(
     note: &ClosedNote,
     name: &Name,
     binds: &Vec<Bind<ClosedTrees>>,
-    scope: &mut Vec<Local>,
+    scope: &mut Locals,
 ) -> Result<u32, Memory>
     ensures next { IfOk result (λ next. next
         ≡ slot + length (slots.fields_of_case (view_in (R.round lookup.now)) (closed_note note.now)
         name.now)) }
-    ensures said { OnOk result (scope_said scope.new.items
+    ensures said { OnOk result (scope_said scope.new
         ≡ slots.with_fields
         (slots.fields_of_case (view_in (R.round lookup.now)) (closed_note note.now) name.now) slot
-        (map (bound closed) binds.now.items) (scope_said scope.old.items)) }
-    ensures keeps { OnOk result (Begins scope.old.items scope.new.items) }
+        (map (bound closed) binds.now.items) (scope_said scope.old)) }
+    ensures keeps { OnOk result (Begins scope.old scope.new) }
 {
     let of = told_type(&note.of);
     match lookup.tag(of, name) {

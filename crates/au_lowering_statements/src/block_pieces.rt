@@ -22,7 +22,7 @@ use au_base::{Memory, Name, Sequence};
 use au_closed_meanings::Lookup;
 use au_closed_trees::{ClosedNote, ClosedTrees};
 use au_low::Instr;
-use au_lowering_expressions::{Draft, Local, find_local, here, patch, put, write_whole};
+use au_lowering_expressions::{Draft, Locals, here, patch, put, write_whole};
 use au_syntax::{Access, BorrowMode, Expr};
 use au_type_texts::{Closed, copy_closed};
 use std::alloc::Global;
@@ -54,13 +54,13 @@ fn borrowed(alloc: Global, mode: BorrowMode, of: &Closed) -> Result<Option<Close
 fn borrowed_of(
     alloc: Global,
     mode: BorrowMode,
-    scope: &[Local],
+    scope: &Locals,
     name: &Name,
 ) -> Result<Option<Closed>, Memory>
     ensures { IfOk result (λ made. option_map closed_meaning made
         ≡ names.borrowed mode (names.type_in (variable_of (scope_said scope.now) name.now))) }
 {
-    match find_local(scope, name) {
+    match scope.find(name) {
         None => Ok(None),
         Some(one) => match &one.of {
             None => Ok(None),
@@ -76,12 +76,12 @@ pub fn declare_reference(
     variable: &Name,
     slot: u32,
     name: &Name,
-    scope: &mut Vec<Local>,
+    scope: &mut Locals,
 ) -> Result<(), Memory>
-    ensures said { OnOk result (scope_said scope.new.items
-        ≡ names.with_reference mode (variable_of (scope_said scope.old.items) variable.now) slot name.now
-        (scope_said scope.old.items)) }
-    ensures keeps { OnOk result (Begins scope.old.items scope.new.items) }
+    ensures said { OnOk result (scope_said scope.new
+        ≡ names.with_reference mode (variable_of (scope_said scope.old) variable.now) slot name.now
+        (scope_said scope.old)) }
+    ensures keeps { OnOk result (Begins scope.old scope.new) }
 {
     let of = borrowed_of(alloc, mode, scope, variable)?;
     declare(alloc, scope, name, slot, of)
@@ -159,14 +159,14 @@ pub fn end_range(out: &mut Vec<Draft>, at: usize, slot: u32) -> Result<(), Memor
 /// Declares the variable of `for`, whose counter has this slot.
 pub fn declare_counter(
     alloc: Global,
-    scope: &mut Vec<Local>,
+    scope: &mut Locals,
     name: &Name,
     slot: u32,
     note: &ClosedNote,
 ) -> Result<(), Memory>
-    ensures said { OnOk result (scope_said scope.new.items
-        ≡ with_name name.now (slot + 2) (Some (closed_note note.now).of) (scope_said scope.old.items)) }
-    ensures keeps { OnOk result (Begins scope.old.items scope.new.items) }
+    ensures said { OnOk result (scope_said scope.new
+        ≡ with_name name.now (slot + 2) (Some (closed_note note.now).of) (scope_said scope.old)) }
+    ensures keeps { OnOk result (Begins scope.old scope.new) }
 {
     let variable = further(slot, 2)?;
     declare_noted(alloc, scope, name, variable, note)
@@ -175,7 +175,7 @@ pub fn declare_counter(
 /// Writes an expression, and what pops it into the next slot.
 pub fn write_stored<R: Lookup>(
     by: &Writer<R>,
-    scope: &[Local],
+    scope: &Locals,
     of: &Expr<ClosedTrees>,
     out: &mut Vec<Draft>,
 ) -> Result<(), Memory>
@@ -191,7 +191,7 @@ pub fn write_stored<R: Lookup>(
 /// Writes the bounds of `for`.
 pub fn write_bounds<R: Lookup>(
     by: &Writer<R>,
-    scope: &[Local],
+    scope: &Locals,
     from: &Expr<ClosedTrees>,
     to: &Expr<ClosedTrees>,
     out: &mut Vec<Draft>,
@@ -213,7 +213,7 @@ pub fn write_bounds<R: Lookup>(
 /// Writes the test of a loop, and answers its place.
 pub fn begin_loop<R: Lookup>(
     by: &Writer<R>,
-    scope: &[Local],
+    scope: &Locals,
     test: &Expr<ClosedTrees>,
     out: &mut Vec<Draft>,
 ) -> Result<u32, Memory>

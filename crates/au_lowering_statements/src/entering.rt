@@ -18,7 +18,7 @@ use crate::taking::{Taken, reached};
 use au_base::{Memory, Name};
 use au_closed_meanings::{Found, Lookup};
 use au_closed_trees::{ClosedNote, ClosedTrees};
-use au_lowering_expressions::{Local, note_of};
+use au_lowering_expressions::{Local, Locals, note_of};
 use au_syntax::{Access, Bind, Renamed, Stmt};
 use au_type_texts::{Closed, copy_closed};
 use std::alloc::Global;
@@ -44,17 +44,17 @@ pub fn further(slot: u32, count: u32) -> Result<u32, Memory>
 /// Only for want of memory.
 pub fn declare(
     alloc: Global,
-    scope: &mut Vec<Local>,
+    scope: &mut Locals,
     name: &Name,
     slot: u32,
     of: Option<Closed>,
 ) -> Result<(), Memory>
-    ensures said { OnOk result (scope_said scope.new.items
-        ≡ names.with_name name.now slot (option_map closed_meaning of) (scope_said scope.old.items)) }
-    ensures keeps { OnOk result (Begins scope.old.items scope.new.items) }
+    ensures said { OnOk result (scope_said scope.new
+        ≡ names.with_name name.now slot (option_map closed_meaning of) (scope_said scope.old)) }
+    ensures keeps { OnOk result (Begins scope.old scope.new) }
 {
     let name = name.copy(alloc)?;
-    scope.push(Local { name, slot, of })?;
+    scope.declare(Local { name, slot, of })?;
     Ok(())
 }
 
@@ -71,16 +71,16 @@ fn bound_name(name: &Renamed<ClosedTrees>) -> &Name
 /// Declares a variable for a field that was found, where the first field of the case has this slot.
 fn declare_found(
     alloc: Global,
-    scope: &mut Vec<Local>,
+    scope: &mut Locals,
     name: &Name,
     slot: u32,
     through: Option<Access>,
     found: Found<'_>,
 ) -> Result<(), Memory>
-    ensures said { OnOk result (scope_said scope.new.items
+    ensures said { OnOk result (scope_said scope.new
         ≡ names.with_name name.now (slot + (found_said found.entry).0)
-        (Some (views.reached through (found_said found.entry).1)) (scope_said scope.old.items)) }
-    ensures keeps { OnOk result (Begins scope.old.items scope.new.items) }
+        (Some (views.reached through (found_said found.entry).1)) (scope_said scope.old)) }
+    ensures keeps { OnOk result (Begins scope.old scope.new) }
 {
     let slot = further(slot, found.number)?;
     let of = reached(alloc, through, found.of)?;
@@ -94,14 +94,14 @@ fn bind_field<R: Lookup>(
     taken: &Taken<'_>,
     slot: u32,
     bind: &Bind<ClosedTrees>,
-    scope: &mut Vec<Local>,
+    scope: &mut Locals,
 ) -> Result<(), Memory>
-    ensures said { OnOk result (scope_said scope.new.items
+    ensures said { OnOk result (scope_said scope.new
         ≡ slots.with_field slot (names.bound_name (bound closed bind.now).name)
         (names.field_of (bound closed bind.now).name.name.name
         (views.fields_taken (R.round lookup.now) taken.now))
-        (scope_said scope.old.items)) }
-    ensures keeps { OnOk result (Begins scope.old.items scope.new.items) }
+        (scope_said scope.old)) }
+    ensures keeps { OnOk result (Begins scope.old scope.new) }
 {
     match lookup.field(taken.of, taken.tag, &bind.name.name.name) {
         None => Ok(()),
@@ -130,12 +130,12 @@ pub fn bind_fields<R: Lookup>(
     taken: &Taken<'_>,
     slot: u32,
     binds: &Vec<Bind<ClosedTrees>>,
-    scope: &mut Vec<Local>,
+    scope: &mut Locals,
 ) -> Result<(), Memory>
-    ensures said { OnOk result (scope_said scope.new.items
+    ensures said { OnOk result (scope_said scope.new
         ≡ slots.with_fields (views.fields_taken (R.round lookup.now) taken.now) slot
-        (map (bound closed) binds.now.items) (scope_said scope.old.items)) }
-    ensures keeps { OnOk result (Begins scope.old.items scope.new.items) }
+        (map (bound closed) binds.now.items) (scope_said scope.old)) }
+    ensures keeps { OnOk result (Begins scope.old scope.new) }
 {
     for one in binds {
         bind_field(alloc, lookup, taken, slot, one, scope)?;
@@ -150,12 +150,12 @@ fn bind_record<R: Lookup>(
     of: &Closed,
     slot: u32,
     binds: &Vec<Bind<ClosedTrees>>,
-    scope: &mut Vec<Local>,
+    scope: &mut Locals,
 ) -> Result<(), Memory>
-    ensures said { OnOk result (scope_said scope.new.items
+    ensures said { OnOk result (scope_said scope.new
         ≡ slots.with_fields (fields_in (R.round lookup.now) (closed_meaning of.now) 0) slot
-        (map (bound closed) binds.now.items) (scope_said scope.old.items)) }
-    ensures keeps { OnOk result (Begins scope.old.items scope.new.items) }
+        (map (bound closed) binds.now.items) (scope_said scope.old)) }
+    ensures keeps { OnOk result (Begins scope.old scope.new) }
 {
     let taken = Taken {
         of,
@@ -169,14 +169,14 @@ fn bind_record<R: Lookup>(
 /// Declares a variable of the type that is noted.
 pub fn declare_noted(
     alloc: Global,
-    scope: &mut Vec<Local>,
+    scope: &mut Locals,
     name: &Name,
     slot: u32,
     note: &ClosedNote,
 ) -> Result<(), Memory>
-    ensures said { OnOk result (scope_said scope.new.items
-        ≡ names.with_name name.now slot (Some (closed_meaning note.now.of)) (scope_said scope.old.items)) }
-    ensures keeps { OnOk result (Begins scope.old.items scope.new.items) }
+    ensures said { OnOk result (scope_said scope.new
+        ≡ names.with_name name.now slot (Some (closed_meaning note.now.of)) (scope_said scope.old)) }
+    ensures keeps { OnOk result (Begins scope.old scope.new) }
 {
     let of = copy_closed(alloc, &note.of)?;
     declare(alloc, scope, name, slot, Some(of))
@@ -193,12 +193,12 @@ pub fn enter<R: Lookup>(
     lookup: &R,
     slot: u32,
     of: &Stmt<ClosedTrees>,
-    scope: &mut Vec<Local>,
+    scope: &mut Locals,
 ) -> Result<(), Memory>
-    ensures said { OnOk result (scope_said scope.new.items
+    ensures said { OnOk result (scope_said scope.new
         ≡ slots.after (view_in (R.round lookup.now)) slot (statement closed of.now)
-        (scope_said scope.old.items)) }
-    ensures keeps { OnOk result (Begins scope.old.items scope.new.items) }
+        (scope_said scope.old)) }
+    ensures keeps { OnOk result (Begins scope.old scope.new) }
 {
     match of {
         Stmt::Let(_, _, name, _, value) => {

@@ -15,7 +15,7 @@ pub mod statements;
 pub mod taking;
 pub mod writers;
 
-pub use au_lowering_expressions::{Draft, Local};
+pub use au_lowering_expressions::{Draft, Local, Locals};
 pub use entering::{declare, further};
 pub use rooms::room_of_block;
 pub use statements::write_block;

@@ -17,7 +17,7 @@ use au_base::{Memory, Name};
 use au_closed_meanings::Lookup;
 use au_closed_trees::ClosedTrees;
 use au_low::{Instr, Mode};
-use au_lowering_expressions::{Draft, Local, find_local, part_of, part_past, put};
+use au_lowering_expressions::{Draft, Locals, part_of, part_past, put};
 use au_syntax::{BorrowMode, Ident};
 use std::alloc::Global;
 
@@ -25,7 +25,7 @@ use std::alloc::Global;
 pub fn put_set<R: Lookup>(
     alloc: Global,
     lookup: &R,
-    scope: &[Local],
+    scope: &Locals,
     name: &Name,
     fields: &Vec<Ident<ClosedTrees>>,
     out: &mut Vec<Draft>,
@@ -50,7 +50,7 @@ pub fn put_set<R: Lookup>(
 pub fn put_put<R: Lookup>(
     alloc: Global,
     lookup: &R,
-    scope: &[Local],
+    scope: &Locals,
     name: &Name,
     fields: &Vec<Ident<ClosedTrees>>,
     out: &mut Vec<Draft>,
@@ -84,7 +84,7 @@ fn mode_in(mode: BorrowMode) -> Mode
 
 /// Writes a borrow of a variable into a slot.
 pub fn put_bind(
-    scope: &[Local],
+    scope: &Locals,
     mode: BorrowMode,
     name: &Name,
     slot: u32,
@@ -93,7 +93,7 @@ pub fn put_bind(
     ensures { OnOk result (drafts_said out.new.items
         ≡ wrote (binds mode slot (variable_of (scope_said scope.now) name.now)) (drafts_said out.old.items)) }
 {
-    match find_local(scope, name) {
+    match scope.find(name) {
         None => Ok(()),
         Some(one) => put(
             out,

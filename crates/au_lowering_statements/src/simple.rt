@@ -21,13 +21,13 @@ use au_base::{Memory, Name};
 use au_closed_meanings::Lookup;
 use au_closed_trees::ClosedTrees;
 use au_low::Instr;
-use au_lowering_expressions::{Draft, Local, put, write_expression, write_whole};
+use au_lowering_expressions::{Draft, Locals, put, write_expression, write_whole};
 use au_syntax::{Expr, Ident, Stmt};
 
 /// Writes an expression, and what puts the fields of the record that it gives into slots from one on.
 fn write_taken<R: Lookup>(
     by: &Writer<R>,
-    scope: &[Local],
+    scope: &Locals,
     value: &Expr<ClosedTrees>,
     out: &mut Vec<Draft>,
 ) -> Result<(), Memory>
@@ -43,7 +43,7 @@ fn write_taken<R: Lookup>(
 /// Writes an expression, and what pops it into a part of a variable.
 fn write_assign<R: Lookup>(
     by: &Writer<R>,
-    scope: &[Local],
+    scope: &Locals,
     name: &Name,
     fields: &Vec<Ident<ClosedTrees>>,
     value: &Expr<ClosedTrees>,
@@ -62,7 +62,7 @@ fn write_assign<R: Lookup>(
 /// Writes an expression, and what pops it into a part of what a variable refers to.
 fn write_assign_through<R: Lookup>(
     by: &Writer<R>,
-    scope: &[Local],
+    scope: &Locals,
     name: &Name,
     fields: &Vec<Ident<ClosedTrees>>,
     value: &Expr<ClosedTrees>,
@@ -81,7 +81,7 @@ fn write_assign_through<R: Lookup>(
 /// Writes a call, and what discards its result.
 fn write_call<R: Lookup>(
     by: &Writer<R>,
-    scope: &[Local],
+    scope: &Locals,
     call: &Expr<ClosedTrees>,
     out: &mut Vec<Draft>,
 ) -> Result<(), Memory>
@@ -97,7 +97,7 @@ fn write_call<R: Lookup>(
 /// Writes an expression whose value is returned.
 fn write_return<R: Lookup>(
     by: &Writer<R>,
-    scope: &[Local],
+    scope: &Locals,
     value: &Expr<ClosedTrees>,
     out: &mut Vec<Draft>,
 ) -> Result<(), Memory>
@@ -113,7 +113,7 @@ fn write_return<R: Lookup>(
 /// Writes a statement that holds no block, and nothing for one that holds a block.
 pub fn write_simple<R: Lookup>(
     by: &Writer<R>,
-    scope: &[Local],
+    scope: &Locals,
     of: &Stmt<ClosedTrees>,
     out: &mut Vec<Draft>,
 ) -> Result<(), Memory>

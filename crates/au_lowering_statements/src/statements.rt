@@ -34,25 +34,25 @@ use au_closed_meanings::Lookup;
 use au_closed_trees::{ClosedNote, ClosedTrees};
 use au_judgements::returning::block_returns;
 use au_low::Instr;
-use au_lowering_expressions::{Draft, Local, end_test, here, note_of, put, write_whole};
+use au_lowering_expressions::{Draft, Locals, end_test, here, note_of, put, write_whole};
 use au_syntax::{Access, Arm, Block, BorrowMode, BorrowNames, Branch, Expr, Stmt};
 
 /// Writes a `while`.
 #[cycle(write)]
 fn write_while<R: Lookup>(
     by: &Writer<R>,
-    scope: &mut Vec<Local>,
+    scope: &mut Locals,
     body: &Block<ClosedTrees>,
     test: &Expr<ClosedTrees>,
     out: &mut Vec<Draft>,
 ) -> Result<(), Memory>
     ensures code { OnOk result (drafts_said out.new.items
         ≡ wrote (looped (returning.block_returns (block closed body.now))
-        (whole (view_in (R.round by.now.lookup.now)) by.now.around (scope_said scope.old.items)
+        (whole (view_in (R.round by.now.lookup.now)) by.now.around (scope_said scope.old)
         (expression closed test.now))
         (spec.block (view_in (R.round by.now.lookup.now)) by.now.around by.now.slot
-        (scope_said scope.old.items) (block closed body.now))) (drafts_said out.old.items)) }
-    ensures same { OnOk result (scope.new.items ≡ scope.old.items) }
+        (scope_said scope.old) (block closed body.now))) (drafts_said out.old.items)) }
+    ensures same { OnOk result (scope.new ≡ scope.old) }
 {
     let start = begin_loop(by, scope, test, out)?;
     let at = out.len();
@@ -68,15 +68,15 @@ fn write_while<R: Lookup>(
 fn write_counted<R: Lookup>(
     by: &Writer<R>,
     start: u32,
-    scope: &mut Vec<Local>,
+    scope: &mut Locals,
     body: &Block<ClosedTrees>,
     out: &mut Vec<Draft>,
 ) -> Result<(), Memory>
     ensures code { OnOk result (drafts_said out.new.items
         ≡ wrote (pieces.counted (returning.block_returns (block closed body.now)) by.now.slot start
         (spec.block (view_in (R.round by.now.lookup.now)) by.now.around (by.now.slot + 3)
-        (scope_said scope.old.items) (block closed body.now))) (drafts_said out.old.items)) }
-    ensures same { OnOk result (scope.new.items ≡ scope.old.items) }
+        (scope_said scope.old) (block closed body.now))) (drafts_said out.old.items)) }
+    ensures same { OnOk result (scope.new ≡ scope.old) }
 {
     let slot = further(by.slot, 3)?;
     write_block(&Writer { slot, ..*by }, scope, body, out)?;
@@ -88,15 +88,15 @@ fn write_counted<R: Lookup>(
 #[cycle(write)]
 fn write_turn<R: Lookup>(
     by: &Writer<R>,
-    scope: &mut Vec<Local>,
+    scope: &mut Locals,
     body: &Block<ClosedTrees>,
     out: &mut Vec<Draft>,
 ) -> Result<(), Memory>
     ensures code { OnOk result (drafts_said out.new.items
         ≡ wrote (ends.turn_from (returning.block_returns (block closed body.now)) by.now.slot
         (spec.block (view_in (R.round by.now.lookup.now)) by.now.around (by.now.slot + 3)
-        (scope_said scope.old.items) (block closed body.now))) (drafts_said out.old.items)) }
-    ensures same { OnOk result (scope.new.items ≡ scope.old.items) }
+        (scope_said scope.old) (block closed body.now))) (drafts_said out.old.items)) }
+    ensures same { OnOk result (scope.new ≡ scope.old) }
 {
     let start = here(out)?;
     put_counter(by.alloc, out, by.slot)?;
@@ -108,15 +108,15 @@ fn write_turn<R: Lookup>(
 #[cycle(write)]
 fn write_range<R: Lookup>(
     by: &Writer<R>,
-    scope: &mut Vec<Local>,
+    scope: &mut Locals,
     body: &Block<ClosedTrees>,
     out: &mut Vec<Draft>,
 ) -> Result<(), Memory>
     ensures code { OnOk result (drafts_said out.new.items
         ≡ wrote (spec.turns (returning.block_returns (block closed body.now)) by.now.slot
         (spec.block (view_in (R.round by.now.lookup.now)) by.now.around (by.now.slot + 3)
-        (scope_said scope.old.items) (block closed body.now))) (drafts_said out.old.items)) }
-    ensures same { OnOk result (scope.new.items ≡ scope.old.items) }
+        (scope_said scope.old) (block closed body.now))) (drafts_said out.old.items)) }
+    ensures same { OnOk result (scope.new ≡ scope.old) }
 {
     let at = put_range(out, by.slot)?;
     write_turn(by, scope, body, out)?;
@@ -128,7 +128,7 @@ fn write_range<R: Lookup>(
 #[cycle(write)]
 fn write_for<R: Lookup>(
     by: &Writer<R>,
-    scope: &mut Vec<Local>,
+    scope: &mut Locals,
     body: &Block<ClosedTrees>,
     name: &Name,
     from: &Expr<ClosedTrees>,
@@ -139,18 +139,18 @@ fn write_for<R: Lookup>(
         ≡ wrote (spec.turns (returning.block_returns (block closed body.now)) by.now.slot
         (spec.block (view_in (R.round by.now.lookup.now)) by.now.around (by.now.slot + 3)
         (with_name name.now (by.now.slot + 2) (Some (meant.note_of (expression closed from.now)).of)
-        (scope_said scope.old.items))
+        (scope_said scope.old))
         (block closed body.now)))
         (pieces.with_bounds (view_in (R.round by.now.lookup.now)) by.now.around by.now.slot
-        (scope_said scope.old.items)
+        (scope_said scope.old)
         (expression closed from.now) (expression closed to.now) (drafts_said out.old.items))) }
-    ensures same { OnOk result (scope.new.items ≡ scope.old.items) }
+    ensures same { OnOk result (scope.new ≡ scope.old) }
 {
     write_bounds(by, scope, from, to, out)?;
     let depth = scope.len();
     declare_counter(by.alloc, scope, name, by.slot, note_of(from))?;
     write_range(by, scope, body, out)?;
-    scope.truncate(depth);
+    scope.leave_to(depth);
     Ok(())
 }
 
@@ -158,15 +158,15 @@ fn write_for<R: Lookup>(
 #[cycle(write)]
 fn write_lent<R: Lookup>(
     by: &Writer<R>,
-    scope: &mut Vec<Local>,
+    scope: &mut Locals,
     body: &Block<ClosedTrees>,
     out: &mut Vec<Draft>,
 ) -> Result<(), Memory>
     ensures code { OnOk result (drafts_said out.new.items
         ≡ wrote (ends.lent (returning.block_returns (block closed body.now)) by.now.around
         (spec.block (view_in (R.round by.now.lookup.now)) (by.now.around + 1) (by.now.slot + 1)
-        (scope_said scope.old.items) (block closed body.now))) (drafts_said out.old.items)) }
-    ensures same { OnOk result (scope.new.items ≡ scope.old.items) }
+        (scope_said scope.old) (block closed body.now))) (drafts_said out.old.items)) }
+    ensures same { OnOk result (scope.new ≡ scope.old) }
 {
     let around = further(by.around, 1)?;
     let slot = further(by.slot, 1)?;
@@ -184,7 +184,7 @@ fn write_lent<R: Lookup>(
 #[cycle(write)]
 fn write_borrow<R: Lookup>(
     by: &Writer<R>,
-    scope: &mut Vec<Local>,
+    scope: &mut Locals,
     mode: BorrowMode,
     variable: &Name,
     name: &Name,
@@ -193,17 +193,17 @@ fn write_borrow<R: Lookup>(
 ) -> Result<(), Memory>
     ensures code { OnOk result (drafts_said out.new.items
         ≡ wrote (spec.lends (returning.block_returns (block closed body.now)) by.now.around by.now.slot mode
-        (variable_of (scope_said scope.old.items) variable.now)
+        (variable_of (scope_said scope.old) variable.now)
         (spec.block (view_in (R.round by.now.lookup.now)) (by.now.around + 1) (by.now.slot + 1)
-        (named.with_reference mode (variable_of (scope_said scope.old.items) variable.now) by.now.slot
-        name.now (scope_said scope.old.items)) (block closed body.now))) (drafts_said out.old.items)) }
-    ensures same { OnOk result (scope.new.items ≡ scope.old.items) }
+        (named.with_reference mode (variable_of (scope_said scope.old) variable.now) by.now.slot
+        name.now (scope_said scope.old)) (block closed body.now))) (drafts_said out.old.items)) }
+    ensures same { OnOk result (scope.new ≡ scope.old) }
 {
     let depth = scope.len();
     put_bind(scope, mode, variable, by.slot, out)?;
     declare_reference(by.alloc, mode, variable, by.slot, name, scope)?;
     write_lent(by, scope, body, out)?;
-    scope.truncate(depth);
+    scope.leave_to(depth);
     Ok(())
 }
 
@@ -211,7 +211,7 @@ fn write_borrow<R: Lookup>(
 #[cycle(write)]
 fn write_borrow_as<R: Lookup>(
     by: &Writer<R>,
-    scope: &mut Vec<Local>,
+    scope: &mut Locals,
     access: Access,
     names: &BorrowNames<ClosedTrees>,
     body: &Block<ClosedTrees>,
@@ -220,13 +220,13 @@ fn write_borrow_as<R: Lookup>(
     ensures code { OnOk result (drafts_said out.new.items
         ≡ wrote (spec.lends (returning.block_returns (block closed body.now)) by.now.around by.now.slot
         (named.mode_of access)
-        (variable_of (scope_said scope.old.items) (placed closed names.now.variable).name)
+        (variable_of (scope_said scope.old) (placed closed names.now.variable).name)
         (spec.block (view_in (R.round by.now.lookup.now)) (by.now.around + 1) (by.now.slot + 1)
         (named.with_reference (named.mode_of access)
-        (variable_of (scope_said scope.old.items) (placed closed names.now.variable).name) by.now.slot
+        (variable_of (scope_said scope.old) (placed closed names.now.variable).name) by.now.slot
         (placed closed names.now.reference).name
-        (scope_said scope.old.items)) (block closed body.now))) (drafts_said out.old.items)) }
-    ensures same { OnOk result (scope.new.items ≡ scope.old.items) }
+        (scope_said scope.old)) (block closed body.now))) (drafts_said out.old.items)) }
+    ensures same { OnOk result (scope.new ≡ scope.old) }
 {
     let mode = mode_of(access);
     let variable = &names.variable.name;
@@ -239,7 +239,7 @@ fn write_borrow_as<R: Lookup>(
 #[cycle(write)]
 fn write_branch<R: Lookup>(
     by: &Writer<R>,
-    scope: &mut Vec<Local>,
+    scope: &mut Locals,
     followed: bool,
     body: &Block<ClosedTrees>,
     jumps: &mut Vec<usize>,
@@ -248,9 +248,9 @@ fn write_branch<R: Lookup>(
     ensures code { OnOk result (ends.Holed
         (λ m. ends.branch_upto followed (returning.block_returns (block closed body.now)) m
         (spec.block (view_in (R.round by.now.lookup.now)) by.now.around by.now.slot
-        (scope_said scope.old.items) (block closed body.now)))
+        (scope_said scope.old) (block closed body.now)))
         jumps.old.items (drafts_said out.old.items) jumps.new.items (drafts_said out.new.items)) }
-    ensures same { OnOk result (scope.new.items ≡ scope.old.items) }
+    ensures same { OnOk result (scope.new ≡ scope.old) }
 {
     let test = out.len();
     put(out, Instr::JumpNot(0))?;
@@ -264,7 +264,7 @@ fn write_branch<R: Lookup>(
 #[cycle(write)]
 fn write_test<R: Lookup>(
     by: &Writer<R>,
-    scope: &mut Vec<Local>,
+    scope: &mut Locals,
     followed: bool,
     of: &Branch<ClosedTrees>,
     jumps: &mut Vec<usize>,
@@ -272,12 +272,12 @@ fn write_test<R: Lookup>(
 ) -> Result<(), Memory>
     ensures code { OnOk result (ends.Holed
         (pieces.test_upto followed (returning.block_returns (block closed of.now.block))
-        (whole (view_in (R.round by.now.lookup.now)) by.now.around (scope_said scope.old.items)
+        (whole (view_in (R.round by.now.lookup.now)) by.now.around (scope_said scope.old)
         (expression closed of.now.test.value))
         (spec.block (view_in (R.round by.now.lookup.now)) by.now.around by.now.slot
-        (scope_said scope.old.items) (block closed of.now.block)))
+        (scope_said scope.old) (block closed of.now.block)))
         jumps.old.items (drafts_said out.old.items) jumps.new.items (drafts_said out.new.items)) }
-    ensures same { OnOk result (scope.new.items ≡ scope.old.items) }
+    ensures same { OnOk result (scope.new ≡ scope.old) }
 {
     write_whole(by.alloc, by.lookup, scope, by.around, &of.test, out)?;
     write_branch(by, scope, followed, &of.block, jumps, out)?;
@@ -288,7 +288,7 @@ fn write_test<R: Lookup>(
 #[cycle(write)]
 fn write_tests<R: Lookup>(
     by: &Writer<R>,
-    scope: &mut Vec<Local>,
+    scope: &mut Locals,
     more: bool,
     branches: &Vec<Branch<ClosedTrees>>,
     jumps: &mut Vec<usize>,
@@ -296,10 +296,10 @@ fn write_tests<R: Lookup>(
 ) -> Result<(), Memory>
     ensures code { OnOk result (ends.Holed
         (λ m. ends.tests_upto (view_in (R.round by.now.lookup.now)) by.now.around by.now.slot
-        (scope_said scope.old.items) m more
+        (scope_said scope.old) m more
         (branch_all closed branches.now.items))
         jumps.old.items (drafts_said out.old.items) jumps.new.items (drafts_said out.new.items)) }
-    ensures same { OnOk result (scope.new.items ≡ scope.old.items) }
+    ensures same { OnOk result (scope.new ≡ scope.old) }
 {
     let mut left = branches.len();
     for one in branches {
@@ -314,15 +314,15 @@ fn write_tests<R: Lookup>(
 #[cycle(write)]
 fn write_conditional<R: Lookup>(
     by: &Writer<R>,
-    scope: &mut Vec<Local>,
+    scope: &mut Locals,
     branches: &Vec<Branch<ClosedTrees>>,
     out: &mut Vec<Draft>,
 ) -> Result<(), Memory>
     ensures code { OnOk result (drafts_said out.new.items
         ≡ wrote (unwrap_or (spec.tests_of (view_in (R.round by.now.lookup.now)) by.now.around by.now.slot
-        (scope_said scope.old.items)
+        (scope_said scope.old)
         (branch_all closed branches.now.items) None) nothing) (drafts_said out.old.items)) }
-    ensures same { OnOk result (scope.new.items ≡ scope.old.items) }
+    ensures same { OnOk result (scope.new ≡ scope.old) }
 {
     let mut jumps = Vec::new(by.alloc);
     write_tests(by, scope, false, branches, &mut jumps, out)?;
@@ -334,16 +334,16 @@ fn write_conditional<R: Lookup>(
 #[cycle(write)]
 fn write_jumps<R: Lookup>(
     by: &Writer<R>,
-    scope: &mut Vec<Local>,
+    scope: &mut Locals,
     branches: &Vec<Branch<ClosedTrees>>,
     out: &mut Vec<Draft>,
 ) -> Result<Vec<usize>, Memory>
     ensures code { IfOk result (λ jumps. ends.Holed
         (λ m. ends.tests_upto (view_in (R.round by.now.lookup.now)) by.now.around by.now.slot
-        (scope_said scope.old.items) m true
+        (scope_said scope.old) m true
         (branch_all closed branches.now.items))
         [] (drafts_said out.old.items) jumps.items (drafts_said out.new.items)) }
-    ensures same { OnOk result (scope.new.items ≡ scope.old.items) }
+    ensures same { OnOk result (scope.new ≡ scope.old) }
 {
     let mut jumps = Vec::new(by.alloc);
     write_tests(by, scope, true, branches, &mut jumps, out)?;
@@ -354,7 +354,7 @@ fn write_jumps<R: Lookup>(
 #[cycle(write)]
 fn write_last<R: Lookup>(
     by: &Writer<R>,
-    scope: &mut Vec<Local>,
+    scope: &mut Locals,
     last: &Block<ClosedTrees>,
     jumps: &Vec<usize>,
     out: &mut Vec<Draft>,
@@ -362,8 +362,8 @@ fn write_last<R: Lookup>(
     ensures code { OnOk result (drafts_said out.new.items
         ≡ pieces.ended jumps.now.items
         (wrote (spec.block (view_in (R.round by.now.lookup.now)) by.now.around by.now.slot
-        (scope_said scope.old.items) (block closed last.now)) (drafts_said out.old.items))) }
-    ensures same { OnOk result (scope.new.items ≡ scope.old.items) }
+        (scope_said scope.old) (block closed last.now)) (drafts_said out.old.items))) }
+    ensures same { OnOk result (scope.new ≡ scope.old) }
 {
     write_block(by, scope, last, out)?;
     end_jumps(out, jumps)?;
@@ -375,7 +375,7 @@ fn write_last<R: Lookup>(
 #[cycle(write)]
 fn write_arm_block<R: Lookup>(
     by: &Writer<R>,
-    scope: &mut Vec<Local>,
+    scope: &mut Locals,
     last: bool,
     body: &Block<ClosedTrees>,
     jumps: &mut Vec<usize>,
@@ -384,9 +384,9 @@ fn write_arm_block<R: Lookup>(
     ensures code { OnOk result (ends.Holed
         (pieces.arm_to (returning.block_returns (block closed body.now) || last)
         (spec.block (view_in (R.round by.now.lookup.now)) by.now.around by.now.slot
-        (scope_said scope.old.items) (block closed body.now)))
+        (scope_said scope.old) (block closed body.now)))
         jumps.old.items (drafts_said out.old.items) jumps.new.items (drafts_said out.new.items)) }
-    ensures same { OnOk result (scope.new.items ≡ scope.old.items) }
+    ensures same { OnOk result (scope.new ≡ scope.old) }
 {
     write_block(by, scope, body, out)?;
     put_end(out, jumps, either(block_returns(body), last))?;
@@ -397,7 +397,7 @@ fn write_arm_block<R: Lookup>(
 #[cycle(write)]
 fn write_arm<R: Lookup>(
     by: &Writer<R>,
-    scope: &mut Vec<Local>,
+    scope: &mut Locals,
     note: &ClosedNote,
     last: bool,
     of: &Arm<ClosedTrees>,
@@ -407,18 +407,18 @@ fn write_arm<R: Lookup>(
     ensures code { OnOk result (ends.Holed
         (pieces.arm_to (returning.block_returns (block closed of.now.block) || last)
         (ends.arm_block (view_in (R.round by.now.lookup.now)) by.now.around by.now.slot
-        (scope_said scope.old.items)
+        (scope_said scope.old)
         (closed_note note.now) (placed closed of.now.case).name (map (bound closed) of.now.binds.items)
         (block closed of.now.block)))
         jumps.old.items (drafts_said out.old.items) jumps.new.items (drafts_said out.new.items)) }
-    ensures same { OnOk result (scope.new.items ≡ scope.old.items) }
+    ensures same { OnOk result (scope.new ≡ scope.old) }
 {
     let depth = scope.len();
     let name = &of.case.name;
     let slot = enter_arm(by.alloc, by.lookup, by.slot, note, name, &of.binds, scope)?;
     let inner = Writer { slot, ..*by };
     write_arm_block(&inner, scope, last, &of.block, jumps, out)?;
-    scope.truncate(depth);
+    scope.leave_to(depth);
     Ok(())
 }
 
@@ -426,7 +426,7 @@ fn write_arm<R: Lookup>(
 #[cycle(write)]
 fn write_arms<R: Lookup>(
     by: &Writer<R>,
-    scope: &mut Vec<Local>,
+    scope: &mut Locals,
     note: &ClosedNote,
     arms: &Vec<Arm<ClosedTrees>>,
     starts: &mut Vec<Start>,
@@ -435,17 +435,17 @@ fn write_arms<R: Lookup>(
 ) -> Result<(), Memory>
     ensures code { OnOk result (ends.Holed
         (λ m p. (ends.arms_upto (view_in (R.round by.now.lookup.now)) by.now.around by.now.slot
-        (scope_said scope.old.items) m
+        (scope_said scope.old) m
         (closed_note note.now) (arm_all closed arms.now.items) p).code)
         jumps.old.items (drafts_said out.old.items) jumps.new.items (drafts_said out.new.items)) }
     ensures starts { OnOk result (pieces.Begun jumps.old.items (drafts_said out.old.items)
         (starts_said starts.new.items)
         (starts_said starts.old.items
         ++ (ends.arms_upto (view_in (R.round by.now.lookup.now)) by.now.around by.now.slot
-        (scope_said scope.old.items) 0
+        (scope_said scope.old) 0
         (closed_note note.now) (arm_all closed arms.now.items)
         (length (drafts_said out.old.items))).starts)) }
-    ensures same { OnOk result (scope.new.items ≡ scope.old.items) }
+    ensures same { OnOk result (scope.new ≡ scope.old) }
 {
     let mut left = arms.len();
     for one in arms {
@@ -461,7 +461,7 @@ fn write_arms<R: Lookup>(
 #[cycle(write)]
 fn write_case<R: Lookup>(
     by: &Writer<R>,
-    scope: &mut Vec<Local>,
+    scope: &mut Locals,
     arms: &Vec<Arm<ClosedTrees>>,
     value: &Expr<ClosedTrees>,
     out: &mut Vec<Draft>,
@@ -469,11 +469,11 @@ fn write_case<R: Lookup>(
     ensures code { OnOk result (drafts_said out.new.items
         ≡ wrote (spec.cases by.now.slot (spec.arms_of (view_in
         (R.round by.now.lookup.now)) by.now.around by.now.slot
-        (scope_said scope.old.items) (meant.note_of (expression closed value.now))
+        (scope_said scope.old) (meant.note_of (expression closed value.now))
         (arm_all closed arms.now.items)))
-        (wrote (whole (view_in (R.round by.now.lookup.now)) by.now.around (scope_said scope.old.items)
+        (wrote (whole (view_in (R.round by.now.lookup.now)) by.now.around (scope_said scope.old)
         (expression closed value.now)) (drafts_said out.old.items))) }
-    ensures same { OnOk result (scope.new.items ≡ scope.old.items) }
+    ensures same { OnOk result (scope.new ≡ scope.old) }
 {
     write_whole(by.alloc, by.lookup, scope, by.around, value, out)?;
     let mut starts = Vec::new(by.alloc);
@@ -496,14 +496,14 @@ fn write_case<R: Lookup>(
 #[cycle(write)]
 fn write_statement<R: Lookup>(
     by: &Writer<R>,
-    scope: &mut Vec<Local>,
+    scope: &mut Locals,
     of: &Stmt<ClosedTrees>,
     out: &mut Vec<Draft>,
 ) -> Result<(), Memory>
     ensures code { OnOk result (drafts_said out.new.items
         ≡ wrote (spec.statement (view_in (R.round by.now.lookup.now)) by.now.around by.now.slot
-        (scope_said scope.old.items) (statement closed of.now)) (drafts_said out.old.items)) }
-    ensures same { OnOk result (scope.new.items ≡ scope.old.items) }
+        (scope_said scope.old) (statement closed of.now)) (drafts_said out.old.items)) }
+    ensures same { OnOk result (scope.new ≡ scope.old) }
 {
     match of {
         Stmt::If(_, tests) => write_conditional(by, scope, tests, out),
@@ -534,14 +534,14 @@ fn write_statement<R: Lookup>(
 #[cycle(write)]
 pub fn write_block<R: Lookup>(
     by: &Writer<R>,
-    scope: &mut Vec<Local>,
+    scope: &mut Locals,
     of: &Block<ClosedTrees>,
     out: &mut Vec<Draft>,
 ) -> Result<(), Memory>
     ensures code { OnOk result (drafts_said out.new.items
         ≡ wrote (spec.block (view_in (R.round by.now.lookup.now)) by.now.around by.now.slot
-        (scope_said scope.old.items) (block closed of.now)) (drafts_said out.old.items)) }
-    ensures same { OnOk result (scope.new.items ≡ scope.old.items) }
+        (scope_said scope.old) (block closed of.now)) (drafts_said out.old.items)) }
+    ensures same { OnOk result (scope.new ≡ scope.old) }
 {
     let depth = scope.len();
     let mut slot = by.slot;
@@ -550,6 +550,6 @@ pub fn write_block<R: Lookup>(
         enter(by.alloc, by.lookup, slot, one, scope)?;
         slot = further(slot, kept(by.lookup, one))?;
     }
-    scope.truncate(depth);
+    scope.leave_to(depth);
     Ok(())
 }

@@ -10,5 +10,5 @@ abbrev pub invariant-loop-one : goal.invariant-loop-one
 invariant-loop-one l =
     (l.slot ≡ l.one-index)
     × (with_parameters l.slot (fields_seen (fields_said (drop l.one-index l.one-items)))
-    (scope_said l.scope.items)
-    ≡ with_parameters 0 (fields_seen (fields_said l.one-items)) (scope_said l.fn.scope.items))
+    (scope_said l.scope)
+    ≡ with_parameters 0 (fields_seen (fields_said l.one-items)) (scope_said l.fn.scope))

@@ -17,7 +17,7 @@ returns-then-is_empty t c =
     let none : length (map (placed closed) p.fields.items) ≡ 0 =
     length-map p.fields.items (placed closed) ∙ sym p.fields.ok.0
     ∙ eqb-true p.fields.len 0 (sym c.is_empty.ensures ∙ c.if-is_empty.true) in
-    c.find_local.ensures
+    c.find.ensures
     ∙ sym (ap (alone scope) (ap (expression closed) p.is ∙ path_says closed p.field-0 p.name p.fields)
     ∙ alone_path (Callee ℕ) scope (node closed p.field-0) (placed closed p.name)
     (map (placed closed) p.fields.items) none)

@@ -9,4 +9,4 @@ use Rattle.au_lowering_expressions.proofs.leaves.put_borrow.Goals as goal
 pub returns-in-None : goal.returns-in-None
 returns-in-None c =
     none_written _ (borrows c.args.mode) (drafts_said c.args.out.now.items)
-    (sym c.find_local.ensures ∙ ap (λ o. option_map local_said (option_copied o)) c.in-None.is)
+    (sym c.find.ensures ∙ ap (λ o. option_map local_said (option_copied o)) c.in-None.is)

@@ -33,7 +33,7 @@ returns-in-None-clause-said g c =
     let round = g.R.Lookup.round c.args.lookup.now in
     let see = view_in round in
     let note = closed_note c.args.note.now in
-    let scope = scope_said c.args.scope.now.items in
+    let scope = scope_said c.args.scope.now in
     let binds = map (bound closed) c.args.binds.now.items in
     sym (ap (λ (o : Option ℕ). with_fields (known (along o (fields_told see note))) c.args.slot binds scope)
     (ap (λ (t : ClosedType). round.tag t c.args.name.now) (sym c.told_type-of.ensures)
@@ -41,7 +41,7 @@ returns-in-None-clause-said g c =
     ∙ no_fields c.args.slot binds scope)
 
 pub returns-in-None-clause-keeps : goal.returns-in-None-clause-keeps
-returns-in-None-clause-keeps g c = begins_same c.args.scope.now.items
+returns-in-None-clause-keeps g c = begins_same c.args.scope.now
 
 pub returns-in_ok-next-in-Some-clause-next : goal.returns-in_ok-next-in-Some-clause-next
 returns-in_ok-next-in-Some-clause-next g c =
@@ -64,7 +64,7 @@ returns-in_ok-next-in-Some-clause-said g c =
     let note = closed_note c.args.note.now in
     let of = closed_meaning c.args.note.now.of in
     let tag = c.in-Some.tag in
-    let scope = scope_said c.args.scope.now.items in
+    let scope = scope_said c.args.scope.now in
     let binds = map (bound closed) c.args.binds.now.items in
     c.in_ok-bind_fields-in-Some.ensures.said
     ∙ ap (λ (a : Option Access). with_fields (map (reached_field a)

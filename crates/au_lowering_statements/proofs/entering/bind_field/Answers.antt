@@ -14,7 +14,7 @@ use Rattle.au_lowering_statements.proofs.entering.bind_field.Goals as goal
 pub returns-in-None-clause-said : goal.returns-in-None-clause-said
 returns-in-None-clause-said g c =
     let round = g.R.Lookup.round c.args.lookup.now in
-    let scope = scope_said c.args.scope.now.items in
+    let scope = scope_said c.args.scope.now in
     let taken = c.args.taken.now in
     sym (ap (λ (o : Option (ℕ × ClosedType)). with_field c.args.slot
     (bound_name (renaming closed c.args.bind.now.name)) o scope)
@@ -22,12 +22,12 @@ returns-in-None-clause-said g c =
     ∙ ap (λ o. option_map (reached_found taken.through) (option_map found_said o)) c.in-None.is))
 
 pub returns-in-None-clause-keeps : goal.returns-in-None-clause-keeps
-returns-in-None-clause-keeps g c = begins_same c.args.scope.now.items
+returns-in-None-clause-keeps g c = begins_same c.args.scope.now
 
 pub returns-in_ok-declare_found-in-Some-clause-said : goal.returns-in_ok-declare_found-in-Some-clause-said
 returns-in_ok-declare_found-in-Some-clause-said g c =
     let round = g.R.Lookup.round c.args.lookup.now in
-    let scope = scope_said c.args.scope.now.items in
+    let scope = scope_said c.args.scope.now in
     let taken = c.args.taken.now in
     let found = reached_found taken.through (found_said c.in-Some.found) in
     c.in_ok-declare_found-in-Some.ensures.said

@@ -9,11 +9,11 @@ use Rattle.au_syntax.specs.Views.{bound}
 use Rattle.au_lowering_statements.proofs.entering.bind_fields.Goals as goal
 
 pub loop-one-init : goal.loop-one-init
-loop-one-init g c = (begins_same c.args.scope.now.items, refl)
+loop-one-init g c = (begins_same c.args.scope.now, refl)
 
 pub loop-one-preserved : goal.loop-one-preserved
 loop-one-preserved g c = (
-  begins_more c.args.scope.now.items c.loop-one.scope.items c.bind_field.new.scope.items
+  begins_more c.args.scope.now c.loop-one.scope c.bind_field.new.scope
       c.loop-one.invariant.0 c.in_ok-bind_field.ensures.keeps,
   fields_step (fields_taken (g.R.Lookup.round c.args.lookup.now) c.args.taken.now)
       c.args.slot c.deref-one-items.result.now c.loop-one.one-index c.one-item.result _ _ _
@@ -24,10 +24,10 @@ pub returns-clause-said : goal.returns-clause-said
 returns-clause-said g c =
     let fields = fields_taken (g.R.Lookup.round c.args.lookup.now) c.args.taken.now in
     sym (at_drop_all (λ all. with_fields fields c.args.slot (map (bound closed) all)
-    (scope_said c.loop-one.scope.items))
+    (scope_said c.loop-one.scope))
     c.deref-one-items.result.now c.loop-one.one-index c.loop-one-test.false)
     ∙ c.loop-one.invariant.1
-    ∙ ap (λ all. with_fields fields c.args.slot (map (bound closed) all) (scope_said c.args.scope.now.items))
+    ∙ ap (λ all. with_fields fields c.args.slot (map (bound closed) all) (scope_said c.args.scope.now))
     c.deref-one-items.ensures.value
 
 pub returns-clause-keeps : goal.returns-clause-keeps

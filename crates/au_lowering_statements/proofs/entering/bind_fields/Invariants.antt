@@ -9,8 +9,8 @@ use Rattle.au_lowering_statements.proofs.entering.bind_fields.Given as goal
 -- the fields so far are in scope, and those that are left come to all
 abbrev pub invariant-loop-one : goal.invariant-loop-one
 invariant-loop-one g l =
-    (Begins l.fn.scope.items l.scope.items)
+    (Begins l.fn.scope l.scope)
     × (with_fields (fields_taken (g.R.Lookup.round l.lookup) l.taken) l.slot
-    (map (bound closed) (drop l.one-index l.one-items)) (scope_said l.scope.items)
+    (map (bound closed) (drop l.one-index l.one-items)) (scope_said l.scope)
     ≡ with_fields (fields_taken (g.R.Lookup.round l.lookup) l.taken) l.slot
-    (map (bound closed) l.one-items) (scope_said l.fn.scope.items))
+    (map (bound closed) l.one-items) (scope_said l.fn.scope))

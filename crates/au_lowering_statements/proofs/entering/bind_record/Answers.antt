@@ -13,4 +13,4 @@ returns-clause-said g c =
     let fields = fields_in (g.R.Lookup.round c.args.lookup.now) (closed_meaning c.args.of.now) 0 in
     c.in_ok-bind_fields.ensures.said
     ∙ ap (λ all. with_fields all c.args.slot (map (bound closed) c.args.binds.now.items)
-    (scope_said c.args.scope.now.items)) (reached_same fields)
+    (scope_said c.args.scope.now)) (reached_same fields)

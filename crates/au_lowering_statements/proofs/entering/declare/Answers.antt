@@ -13,8 +13,8 @@ use Rattle.au_lowering_statements.proofs.entering.declare.Goals as goal
 pub returns-clause-said : goal.returns-clause-said
 returns-clause-said c =
     let one : Local = record { name = c.in_ok-name.name; slot = c.args.slot; of = c.args.of } in
-    let old = c.args.scope.now.items in
-    let pushed : c.push.new.self.items ≡ old ++ one ∷ [] = grind (arith, common_steps) in
+    let old = c.args.scope.now in
+    let pushed : c.declare.new.self ≡ old ++ one ∷ [] = grind (arith, common_steps) in
     ap scope_said pushed ∙ scope_push old one
     ∙ ap (λ n. with_name n c.args.slot (option_map closed_meaning c.args.of) (scope_said old))
     c.in_ok-name.ensures
@@ -22,6 +22,6 @@ returns-clause-said c =
 pub returns-clause-keeps : goal.returns-clause-keeps
 returns-clause-keeps c =
     let one : Local = record { name = c.in_ok-name.name; slot = c.args.slot; of = c.args.of } in
-    let old = c.args.scope.now.items in
-    let pushed : c.push.new.self.items ≡ old ++ one ∷ [] = grind (arith, common_steps) in
+    let old = c.args.scope.now in
+    let pushed : c.declare.new.self ≡ old ++ one ∷ [] = grind (arith, common_steps) in
     subst (Begins old) (sym pushed) (begins_push old one)

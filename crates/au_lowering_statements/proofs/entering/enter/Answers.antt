@@ -14,7 +14,7 @@ use Rattle.au_lowering_statements.proofs.entering.enter.Goals as goal
 pub returns-in_ok-declare_noted-in-Let-clause-said : goal.returns-in_ok-declare_noted-in-Let-clause-said
 returns-in_ok-declare_noted-in-Let-clause-said g c =
     let see = view_in (g.R.Lookup.round c.args.lookup.now) in
-    let scope = scope_said c.args.scope.now.items in
+    let scope = scope_said c.args.scope.now in
     let p = c.in-Let in
     c.in_ok-declare_noted-in-Let.ensures.said
     ∙ ap (λ (n : ClosedNote). with_name p.name.name c.args.slot (Some n.of) scope) c.note_of.ensures
@@ -27,7 +27,7 @@ pub returns-in_ok-bind_record-in-Destructure-clause-said :
     goal.returns-in_ok-bind_record-in-Destructure-clause-said
 returns-in_ok-bind_record-in-Destructure-clause-said g c =
     let round = g.R.Lookup.round c.args.lookup.now in
-    let scope = scope_said c.args.scope.now.items in
+    let scope = scope_said c.args.scope.now in
     let p = c.in-Destructure in
     let binds = map (bound closed) p.binds.items in
     let note = note_of (expression closed p.value.value) in

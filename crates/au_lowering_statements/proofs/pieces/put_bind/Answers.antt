@@ -12,4 +12,4 @@ pub returns-in-None : goal.returns-in-None
 returns-in-None c =
     none_written _ (λ (x : Variable). does (instr.Bind x.number c.args.slot (mode_in c.args.mode)))
     (drafts_said c.args.out.now.items)
-    (sym c.find_local.ensures ∙ ap (λ o. option_map local_said (option_copied o)) c.in-None.is)
+    (sym c.find.ensures ∙ ap (λ o. option_map local_said (option_copied o)) c.in-None.is)

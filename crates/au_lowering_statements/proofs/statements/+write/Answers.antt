@@ -70,7 +70,7 @@ write_statement-returns-in_default-clause-code g t c =
     ≡ wrote w (drafts_said c.args.out.now.items)))
     (ap (λ s. said_simple round around slot (scope_said s) c.args.of.now)
     c.deref-in_default.ensures.value
-    ∙ simple_all round around slot (scope_said c.args.scope.now.items) c.args.of.now
+    ∙ simple_all round around slot (scope_said c.args.scope.now) c.args.of.now
     k.not-If k.not-IfElse k.not-Case k.not-While k.not-For k.not-Borrow k.not-BorrowTyped)
     c.write_simple.ensures
 
@@ -80,7 +80,7 @@ write_statement-returns-in_ok-write_last-in-IfElse-clause-code g t c =
     let round = g.R.Lookup.round c.args.by.now.lookup.now in
     let around = c.args.by.now.around in
     let slot = c.args.by.now.slot in
-    let scope = scope_said c.args.scope.now.items in
+    let scope = scope_said c.args.scope.now in
     let d = drafts_said c.args.out.now.items in
     let p = c.in-IfElse in
     loops.last_is round around slot scope p.branches.items
@@ -101,7 +101,7 @@ write_while-returns-clause-code g t c =
     let round = g.R.Lookup.round c.args.by.now.lookup.now in
     let around = c.args.by.now.around in
     let slot = c.args.by.now.slot in
-    let scope = scope_said c.args.scope.now.items in
+    let scope = scope_said c.args.scope.now in
     let returns = block_returns (block closed c.args.body.now) in
     let body = said_block round around slot scope c.args.body.now in
     let start = c.in_ok-start.start in
@@ -128,7 +128,7 @@ write_counted-returns-clause-code g t c =
     let see = view_in (g.R.Lookup.round c.args.by.now.lookup.now) in
     let around = c.args.by.now.around in
     let slot = c.args.by.now.slot in
-    let scope = scope_said c.args.scope.now.items in
+    let scope = scope_said c.args.scope.now in
     let d = drafts_said c.args.out.now.items in
     let returns = block_returns (block closed c.args.body.now) in
     let step = ForStep slot (slot + 1) c.args.start in
@@ -146,7 +146,7 @@ write_turn-returns-clause-code g t c =
     let see = view_in (g.R.Lookup.round c.args.by.now.lookup.now) in
     let around = c.args.by.now.around in
     let slot = c.args.by.now.slot in
-    let scope = scope_said c.args.scope.now.items in
+    let scope = scope_said c.args.scope.now in
     let returns = block_returns (block closed c.args.body.now) in
     let body = spec.block see around (slot + 3) scope (block closed c.args.body.now) in
     let d = drafts_said c.args.out.now.items in
@@ -165,7 +165,7 @@ write_range-returns-clause-code g t c =
     let see = view_in (g.R.Lookup.round c.args.by.now.lookup.now) in
     let around = c.args.by.now.around in
     let slot = c.args.by.now.slot in
-    let scope = scope_said c.args.scope.now.items in
+    let scope = scope_said c.args.scope.now in
     turns_written (block_returns (block closed c.args.body.now)) slot
     (spec.block see around (slot + 3) scope (block closed c.args.body.now))
     (drafts_said c.args.out.now.items) (drafts_said c.put_range.new.out.items)
@@ -177,7 +177,7 @@ write_for-returns-clause-code g t c =
     let see = view_in (g.R.Lookup.round c.args.by.now.lookup.now) in
     let around = c.args.by.now.around in
     let slot = c.args.by.now.slot in
-    let scope = scope_said c.args.scope.now.items in
+    let scope = scope_said c.args.scope.now in
     let first = expression closed c.args.from.now in
     let last = expression closed c.args.to.now in
     let counting = λ (inner : Scope). spec.turns (block_returns (block closed c.args.body.now)) slot
@@ -199,7 +199,7 @@ write_lent-returns-clause-code g t c =
     let see = view_in (g.R.Lookup.round c.args.by.now.lookup.now) in
     let around = c.args.by.now.around in
     let slot = c.args.by.now.slot in
-    let scope = scope_said c.args.scope.now.items in
+    let scope = scope_said c.args.scope.now in
     let d = drafts_said c.args.out.now.items in
     let returns = block_returns (block closed c.args.body.now) in
     let close = Close around in
@@ -220,7 +220,7 @@ write_borrow-returns-clause-code g t c =
     let around = c.args.by.now.around in
     let slot = c.args.by.now.slot in
     let see = view_in round in
-    let scope = scope_said c.args.scope.now.items in
+    let scope = scope_said c.args.scope.now in
     let d = drafts_said c.args.out.now.items in
     let returns = block_returns (block closed c.args.body.now) in
     let variable = variable_of scope c.args.variable.now in
@@ -243,7 +243,7 @@ write_branch-returns-clause-code g t c =
     let round = g.R.Lookup.round c.args.by.now.lookup.now in
     let around = c.args.by.now.around in
     let slot = c.args.by.now.slot in
-    let scope = scope_said c.args.scope.now.items in
+    let scope = scope_said c.args.scope.now in
     let returns = block_returns (block closed c.args.body.now) in
     holed_branch c.args.followed returns (said_block round around slot scope c.args.body.now)
     c.args.jumps.now.items c.put_end.new.jumps.items (drafts_said c.args.out.now.items)
@@ -262,7 +262,7 @@ write_test-returns-clause-code g t c =
     let round = g.R.Lookup.round c.args.by.now.lookup.now in
     let around = c.args.by.now.around in
     let slot = c.args.by.now.slot in
-    let scope = scope_said c.args.scope.now.items in
+    let scope = scope_said c.args.scope.now in
     let returns = block_returns (block closed c.args.of.now.block) in
     let test = said_whole round around slot scope c.args.of.now.test.value in
     let body = said_block round around slot scope c.args.of.now.block in
@@ -287,7 +287,7 @@ write_tests-loop-one-preserved g t c =
     let round = g.R.Lookup.round c.args.by.now.lookup.now in
     let around = c.args.by.now.around in
     let slot = c.args.by.now.slot in
-    let scope = scope_said c.args.scope.now.items in
+    let scope = scope_said c.args.scope.now in
     let xs = c.deref-one-items.result.now in
     let x = c.one-item.result in
     let i = c.loop-one.one-index in
@@ -317,7 +317,7 @@ write_tests-returns-clause-code g t c =
     let round = g.R.Lookup.round c.args.by.now.lookup.now in
     let around = c.args.by.now.around in
     let slot = c.args.by.now.slot in
-    let scope = scope_said c.args.scope.now.items in
+    let scope = scope_said c.args.scope.now in
     subst (λ xs. Holed (tests_left round around slot scope c.args.more xs)
     c.args.jumps.now.items (drafts_said c.args.out.now.items)
     c.loop-one.jumps.items (drafts_said c.loop-one.out.items))
@@ -331,7 +331,7 @@ write_conditional-returns-clause-code g t c =
     let round = g.R.Lookup.round c.args.by.now.lookup.now in
     let around = c.args.by.now.around in
     let slot = c.args.by.now.slot in
-    let scope = scope_said c.args.scope.now.items in
+    let scope = scope_said c.args.scope.now in
     let d = drafts_said c.args.out.now.items in
     let d1 = drafts_said c.write_tests.new.out.items in
     let all = c.write_tests.new.jumps.items in
@@ -346,7 +346,7 @@ write_jumps-returns-clause-code g t c =
     let round = g.R.Lookup.round c.args.by.now.lookup.now in
     let around = c.args.by.now.around in
     let slot = c.args.by.now.slot in
-    let scope = scope_said c.args.scope.now.items in
+    let scope = scope_said c.args.scope.now in
     subst (λ j. Holed (tests_left round around slot scope true c.args.branches.now.items)
     j (drafts_said c.args.out.now.items) c.write_tests.new.jumps.items
     (drafts_said c.write_tests.new.out.items)) c.new-jumps.ensures.items c.in_ok-write_tests.ensures.code
@@ -358,7 +358,7 @@ write_arm_block-returns-clause-code g t c =
     let round = g.R.Lookup.round c.args.by.now.lookup.now in
     let around = c.args.by.now.around in
     let slot = c.args.by.now.slot in
-    let scope = scope_said c.args.scope.now.items in
+    let scope = scope_said c.args.scope.now in
     let returns = block_returns (block closed c.args.body.now) in
     let body = said_block round around slot scope c.args.body.now in
     holed_row (λ m. body) (λ m. unless (returns || c.args.last) (Jump m))
@@ -378,7 +378,7 @@ write_arm-returns-clause-code g t c =
     let around = c.args.by.now.around in
     let slot = c.args.by.now.slot in
     let arm = c.args.of.now in
-    let scope = scope_said c.args.scope.now.items in
+    let scope = scope_said c.args.scope.now in
     let note = closed_note c.args.note.now in
     let name = (placed closed arm.case).name in
     let fields = fields_of_case see note name in
@@ -400,7 +400,7 @@ write_arms-loop-one-preserved g t c =
     let round = g.R.Lookup.round c.args.by.now.lookup.now in
     let around = c.args.by.now.around in
     let slot = c.args.by.now.slot in
-    let scope = scope_said c.args.scope.now.items in
+    let scope = scope_said c.args.scope.now in
     let note = closed_note c.args.note.now in
     let xs = c.deref-one-items.result.now in
     let x = c.one-item.result in
@@ -440,7 +440,7 @@ write_arms-returns-clause-code g t c =
     let round = g.R.Lookup.round c.args.by.now.lookup.now in
     let around = c.args.by.now.around in
     let slot = c.args.by.now.slot in
-    let scope = scope_said c.args.scope.now.items in
+    let scope = scope_said c.args.scope.now in
     let note = closed_note c.args.note.now in
     subst (λ xs. Holed (arms_left round around slot scope note xs)
     c.args.jumps.now.items (drafts_said c.args.out.now.items)
@@ -455,7 +455,7 @@ write_arms-returns-clause-starts g t c = λ b.
     let round = g.R.Lookup.round c.args.by.now.lookup.now in
     let around = c.args.by.now.around in
     let slot = c.args.by.now.slot in
-    let scope = scope_said c.args.scope.now.items in
+    let scope = scope_said c.args.scope.now in
     let note = closed_note c.args.note.now in
     loops.begins_end round around slot scope note c.deref-one-items.result.now
     c.loop-one.one-index (length (drafts_said c.loop-one.out.items)) _ _ c.loop-one-test.false
@@ -470,7 +470,7 @@ write_case-returns-clause-code g t c =
     let round = g.R.Lookup.round c.args.by.now.lookup.now in
     let around = c.args.by.now.around in
     let slot = c.args.by.now.slot in
-    let scope = scope_said c.args.scope.now.items in
+    let scope = scope_said c.args.scope.now in
     let note = closed_note c.note_of.result.now in
     let d = drafts_said c.write_whole.new.out.items in
     let d1 = drafts_said c.put_case.new.out.items in
@@ -498,19 +498,19 @@ write_case-returns-clause-code g t c =
 -- ---- blocks
 
 pub write_block-loop-one-init : goal.write_block-loop-one-init
-write_block-loop-one-init g t c = (begins_same c.args.scope.now.items, refl)
+write_block-loop-one-init g t c = (begins_same c.args.scope.now, refl)
 
 pub write_block-loop-one-preserved : goal.write_block-loop-one-preserved
 write_block-loop-one-preserved g t c =
     let round = g.R.Lookup.round c.args.by.now.lookup.now in
     let around = c.args.by.now.around in
     let same = c.in_ok-write_statement.ensures.same in (
-      begins_more c.args.scope.now.items c.loop-one.scope.items c.enter.new.scope.items
+      begins_more c.args.scope.now c.loop-one.scope c.enter.new.scope
           c.loop-one.invariant.0
-          (subst (λ s. Begins s c.enter.new.scope.items) same c.in_ok-enter.ensures.keeps),
+          (subst (λ s. Begins s c.enter.new.scope) same c.in_ok-enter.ensures.keeps),
       block_step round around c.deref-one-items.result.now c.loop-one.one-index c.one-item.result
-          c.loop-one.slot c.in_ok-slot.slot (scope_said c.loop-one.scope.items)
-          (scope_said c.enter.new.scope.items) (drafts_said c.loop-one.out.items)
+          c.loop-one.slot c.in_ok-slot.slot (scope_said c.loop-one.scope)
+          (scope_said c.enter.new.scope) (drafts_said c.loop-one.out.items)
           (drafts_said c.write_statement.new.out.items) _ c.loop-one-test.true c.one-item.is
           c.in_ok-write_statement.ensures.code
           (c.in_ok-enter.ensures.said
@@ -526,9 +526,9 @@ write_block-returns-clause-code g t c =
     let round = g.R.Lookup.round c.args.by.now.lookup.now in
     let around = c.args.by.now.around in
     let slot = c.args.by.now.slot in
-    let scope = scope_said c.args.scope.now.items in
+    let scope = scope_said c.args.scope.now in
     block_end round around c.deref-one-items.result.now c.loop-one.one-index c.loop-one.slot
-    (scope_said c.loop-one.scope.items) (drafts_said c.loop-one.out.items) _ c.loop-one-test.false
+    (scope_said c.loop-one.scope) (drafts_said c.loop-one.out.items) _ c.loop-one-test.false
     (c.loop-one.invariant.1
     ∙ ap (λ xs. wrote (spec.block (view_in round) around slot scope (statement_all closed xs))
     (drafts_said c.args.out.now.items)) c.deref-one-items.ensures.value)
