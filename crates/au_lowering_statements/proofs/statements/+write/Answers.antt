@@ -68,9 +68,7 @@ write_statement-returns-in_default-clause-code g t c =
     let k = c.in_default in
     subst (λ w. OnOk c.write_simple.result (drafts_said c.write_simple.new.out.items
     ≡ wrote w (drafts_said c.args.out.now.items)))
-    (ap (λ s. said_simple round around slot (scope_said s) c.args.of.now)
-    c.deref-in_default.ensures.value
-    ∙ simple_all round around slot (scope_said c.args.scope.now) c.args.of.now
+    (simple_all round around slot (scope_said c.args.scope.now) c.args.of.now
     k.not-If k.not-IfElse k.not-Case k.not-While k.not-For k.not-Borrow k.not-BorrowTyped)
     c.write_simple.ensures
 
@@ -109,9 +107,7 @@ write_while-returns-clause-code g t c =
     let d1 = drafts_said c.begin_loop.new.out.items in
     loop_written returns (said_whole round around slot scope c.args.test.now) body
     d d1 (drafts_said c.end_test.new.out.items) start c.in_ok-start.ensures.at
-    (c.in_ok-start.ensures.code
-    ∙ ap (λ s. wrote (whole (view_in round) around (scope_said s)
-    (expression closed c.args.test.now)) d) c.deref.ensures.value)
+    c.in_ok-start.ensures.code
     (when_written (turn_from returns start body) d1 (drafts_said c.put.new.out.items)
     (drafts_said c.put_unless.new.out.items) (drafts_said c.end_test.new.out.items) c.len-at.result
     (omega (arith, c.len-at.ensures, length-map c.begin_loop.new.out.items draft_said))
@@ -188,9 +184,7 @@ write_for-returns-clause-code g t c =
     ∙ ap (λ (note : ClosedNote). with_name c.args.name.now (slot + 2) (Some note.of) scope)
     c.note_of.ensures)
     ∙ ap (wrote (counting (with_name c.args.name.now (slot + 2) (Some (note_of first).of) scope)))
-    (c.in_ok-write_bounds.ensures
-    ∙ ap (λ s. with_bounds see around slot (scope_said s) first last
-    (drafts_said c.args.out.now.items)) c.deref.ensures.value)
+    c.in_ok-write_bounds.ensures
 
 -- ---- borrow statements
 
@@ -231,9 +225,7 @@ write_borrow-returns-clause-code g t c =
     (block closed c.args.body.now))) (drafts_said c.put_bind.new.out.items))
     c.in_ok-declare_reference.ensures.said
     ∙ ap (wrote (lent returns around body))
-    (c.in_ok-put_bind.ensures
-    ∙ ap (λ s. wrote (binds c.args.mode slot (variable_of (scope_said s) c.args.variable.now)) d)
-    c.deref.ensures.value)
+    c.in_ok-put_bind.ensures
     ∙ sym (lemmas.lends_row round around slot scope d returns c.args.mode variable body)
 
 -- ---- conditionals
@@ -273,10 +265,8 @@ write_test-returns-clause-code g t c =
     (holed_plain test c.args.jumps.now.items (drafts_said c.args.out.now.items)
     (drafts_said c.write_whole.new.out.items)
     (c.in_ok-write_whole.ensures
-    ∙ ap (λ s. wrote (whole (view_in round) around (scope_said s)
-    (expression closed c.deref-2.result.now)) (drafts_said c.args.out.now.items)) c.deref.ensures.value
     ∙ ap (λ e. wrote (said_whole round around slot scope e) (drafts_said c.args.out.now.items))
-    c.deref-2.ensures))
+    c.deref.ensures))
     c.in_ok-write_branch.ensures.code
 
 pub write_tests-loop-one-init : goal.write_tests-loop-one-init
@@ -491,9 +481,7 @@ write_case-returns-clause-code g t c =
     c.in_ok-end_case.ensures
     ∙ ap (λ n. wrote (cases n) d) c.note_of.ensures
     ∙ ap (wrote (cases (note_of (expression closed c.args.value.now))))
-    (c.in_ok-write_whole.ensures
-    ∙ ap (λ s. wrote (whole (view_in round) around (scope_said s)
-    (expression closed c.args.value.now)) (drafts_said c.args.out.now.items)) c.deref.ensures.value)
+    c.in_ok-write_whole.ensures
 
 -- ---- blocks
 
