@@ -115,17 +115,6 @@ pub fn is_free_in(scope: &Scope, of: &Ty) -> bool
     )
 }
 
-/// Whether a type is a record that is known in a scope.
-///
-/// # Errors
-///
-/// Only for want of memory.
-pub fn is_record(alloc: Global, scope: &Scope, of: &Ty) -> Result<bool, Memory>
-    ensures { IfOk result (λ known. known ≡ spec.is_record (scope_said scope.now) (meaning of.now)) }
-{
-    Ok(fields(alloc, &scope.outside, of)?.is_some())
-}
-
 /// The type of what has a name among fields or parameters, if one has it.
 pub fn type_of_name<'t>(name: &Name, all: &'t [Typed]) -> Option<&'t Ty>
     ensures { option_map meaning (option_copied result) ≡ spec.type_of_name name.now (all_typed all.now) }
@@ -183,11 +172,11 @@ fn known_field(alloc: Global, scope: &Scope, of: &Ty, name: &Name) -> Result<Ty,
 /// # Errors
 ///
 /// The first name that is no field.
-pub fn part_type(alloc: Global, scope: &Scope, of: &Ty, path: &[Ident<Parsed>]) -> Result<Ty, Fault>
+fn part_type(alloc: Global, scope: &Scope, of: Ty, path: &[Ident<Parsed>]) -> Result<Ty, Fault>
     ensures { Gives meaning result
-        (spec.part_type (scope_said scope.now) (meaning of.now) (fields_said path.now)) }
+        (spec.part_type (scope_said scope.now) (meaning of) (fields_said path.now)) }
 {
-    let mut part = copy_type(alloc, of)?;
+    let mut part = of;
     for field in path {
         part = known_field(alloc, scope, &part, &field.name)?;
     }
@@ -208,10 +197,49 @@ pub fn record_part(
     ensures { Gives meaning result
         (spec.record_part (scope_said scope.now) (meaning of.now) (fields_said path.now)) }
 {
-    if is_record(alloc, scope, of)? {
-        part_type(alloc, scope, of, path)
-    } else {
-        Err(other_form(Form::Record))
+    match fields(alloc, &scope.outside, of)? {
+        Some(all) => part_within(alloc, scope, of, all.as_slice(), path),
+        None => Err(other_form(Form::Record)),
+    }
+}
+
+/// The type of a part of a record with these fields.
+///
+/// # Errors
+///
+/// The first name that is no field.
+fn part_within(
+    alloc: Global,
+    scope: &Scope,
+    of: &Ty,
+    all: &[Typed],
+    path: &[Ident<Parsed>],
+) -> Result<Ty, Fault>
+    requires { (scope_said scope.now).outside.fields (meaning of.now) ≡ Some (all_typed all.now) }
+    ensures { Gives meaning result
+        (spec.part_type (scope_said scope.now) (meaning of.now) (fields_said path.now)) }
+{
+    match path.split_first() {
+        Some((first, rest)) => {
+            let next = known_among(alloc, all, &first.name)?;
+            part_type(alloc, scope, next, rest)
+        }
+        None => Ok(copy_type(alloc, of)?),
+    }
+}
+
+/// The type of what has a name among fields.
+///
+/// # Errors
+///
+/// That nothing has the name.
+fn known_among(alloc: Global, all: &[Typed], name: &Name) -> Result<Ty, Fault>
+    ensures { Gives meaning result
+        (faults.known_or (faults.unknown name.now) (spec.type_of_name name.now (all_typed all.now))) }
+{
+    match type_of_name(name, all) {
+        Some(of) => Ok(copy_type(alloc, of)?),
+        None => Err(unknown(alloc, name)),
     }
 }
 

@@ -8,5 +8,5 @@ use Rattle.au_noting.proofs.lookups.part_type.Given as goal
 -- what is left of the path is looked for in the part so far
 abbrev pub invariant-loop-field : goal.invariant-loop-field
 invariant-loop-field l =
-    part_type (scope_said l.scope) (meaning l.of) (fields_said l.path)
+    part_type (scope_said l.scope) (meaning l.fn.of) (fields_said l.path)
     ≡ part_type (scope_said l.scope) (meaning l.part) (fields_said (drop l.field-index l.path))
