@@ -6,3 +6,4 @@ pub mod RowLemmas
 pub mod LowerLemmas
 pub mod DraftLemmas
 mod StepLemmas
+pub mod PlaceLemmas

@@ -6,6 +6,8 @@ pub use Rattle.au_closed_programs.specs.declared.programs.ClosedProgram
 pub mod Views
 pub mod Drafts
 pub mod Keyed
+pub mod Mixing
+pub mod Placed
 pub mod Drafted
 pub mod DraftViews
 pub mod Closed

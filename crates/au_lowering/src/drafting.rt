@@ -17,7 +17,7 @@ ghost use Rattle.au_syntax.specs.Views.{block};
 
 use crate::functions::Drafted;
 use crate::lookups::Round;
-use crate::seen::SeenRow;
+use crate::placing::PlacedRows;
 use au_base::Memory;
 use au_closed_meanings::Lookup;
 use au_closed_programs::ClosedFunction;
@@ -87,11 +87,11 @@ fn body_of<R: Lookup>(
 fn draft_function(
     alloc: Global,
     functions: &Vec<ClosedFunction>,
-    rows: &Vec<SeenRow<'_>>,
+    rows: &PlacedRows<'_>,
     one: &ClosedFunction,
 ) -> Result<Drafted, Memory>
     ensures { IfOk result (λ made. drafted_said made
-        ≡ drafted_from (map body_seen (functions_said functions.now.items)) (rows_held rows.now.items)
+        ≡ drafted_from (map body_seen (functions_said functions.now.items)) (rows_held rows.now.rows.items)
         (body_seen (function_said one.now))) }
 {
     let lookup = Round {
@@ -118,10 +118,11 @@ fn draft_function(
 pub fn draft_functions(
     alloc: Global,
     functions: &Vec<ClosedFunction>,
-    rows: &Vec<SeenRow<'_>>,
+    rows: &PlacedRows<'_>,
 ) -> Result<Vec<Drafted>, Memory>
     ensures { IfOk result (λ made. all_said made.items
-        ≡ map (drafted_from (map body_seen (functions_said functions.now.items)) (rows_held rows.now.items))
+        ≡ map (drafted_from (map body_seen (functions_said functions.now.items))
+        (rows_held rows.now.rows.items))
         (map body_seen (functions_said functions.now.items))) }
 {
     let mut made = Vec::new(alloc);

@@ -13,8 +13,9 @@ ghost use Rattle.au_lowering.specs.Views.{case_in, rows_held};
 ghost use Rattle.au_lowering.specs.Closed.{body_seen};
 ghost use Rattle.au_meaning.specs.Views.{invokes, makes, ships};
 
-use crate::rows::{case_at, count_of, field_in as field_of_case, find_row, names_of, tag_in};
-use crate::seen::{SeenCase, SeenRow};
+use crate::placing::{PlacedRows, find_row};
+use crate::rows::{case_at, count_of, field_in as field_of_case, names_of, tag_in};
+use crate::seen::SeenCase;
 use au_base::{Memory, Name};
 use au_closed_meanings::{Act, Called, Found, Lookup, born, shipped_parameters};
 use au_closed_programs::ClosedFunction;
@@ -29,7 +30,7 @@ pub struct Round<'a> {
     /// The functions by their numbers.
     pub functions: &'a Vec<ClosedFunction>,
     /// The rows of types.
-    pub rows: &'a Vec<SeenRow<'a>>,
+    pub rows: &'a PlacedRows<'a>,
     /// The name of the module.
     pub home: &'a Name,
 }
@@ -72,9 +73,9 @@ fn invoked(
 }
 
 /// The case of a number of a type.
-fn find_case<'r, 'a>(rows: &'r Vec<SeenRow<'a>>, of: &Closed, tag: u32) -> Option<&'r SeenCase<'a>>
+fn find_case<'r, 'a>(rows: &'r PlacedRows<'a>, of: &Closed, tag: u32) -> Option<&'r SeenCase<'a>>
     ensures { option_map (λ one. (case_in one).fields) (option_copied result)
-        ≡ along (row_in (rows_held rows.now.items) (closed_meaning of.now))
+        ≡ along (row_in (rows_held rows.now.rows.items) (closed_meaning of.now))
         (λ row. fields_at tag row.cases) }
 {
     match find_row(rows, of) {
@@ -86,14 +87,15 @@ fn find_case<'r, 'a>(rows: &'r Vec<SeenRow<'a>>, of: &Closed, tag: u32) -> Optio
 /// What a call of a constructor does that makes the case of a number of a type.
 fn made(
     alloc: Global,
-    rows: &Vec<SeenRow<'_>>,
+    rows: &PlacedRows<'_>,
     home: &Name,
     of: &Closed,
     tag: u32,
 ) -> Result<Option<Called>, Memory>
     ensures { IfOk result (λ made. option_map called_said made
         ≡ with_parameters (option_map field_names
-        (along (row_in (rows_held rows.now.items) (closed_meaning of.now)) (λ row. fields_at tag row.cases)))
+        (along (row_in (rows_held rows.now.rows.items) (closed_meaning of.now))
+        (λ row. fields_at tag row.cases)))
         (makes (closed_meaning of.now) tag home.now)) }
 {
     match find_case(rows, of, tag) {
@@ -132,7 +134,7 @@ impl<'a> Lookup for Round<'a> {
     ghost use Rattle.au_lowering.specs.Closed.{body_seen};
 
     ghost round = { λ r. surroundings (map body_seen (functions_said r.functions.now.items))
-        (rows_held r.rows.now.items) r.home.now };
+        (rows_held r.rows.now.rows.items) r.home.now };
 
     fn called(
         &self,

@@ -11,7 +11,7 @@ use crate::coding::lower_drafted;
 use crate::drafting::draft_functions;
 use crate::faults::LowerFault;
 use crate::functions::Drafted;
-use crate::rows::see_rows;
+use crate::placing::place_rows;
 use au_base::Memory;
 use au_closed_programs::ClosedProgram;
 use au_low::Code;
@@ -23,7 +23,7 @@ fn drafts_of(alloc: Global, program: &ClosedProgram) -> Result<Vec<Drafted>, Mem
     ensures { IfOk result (λ made.
         all_said made.items ≡ map drafted (functions_of (program_said program.now))) }
 {
-    let rows = see_rows(alloc, &program.types)?;
+    let rows = place_rows(alloc, &program.types)?;
     draft_functions(alloc, &program.functions, &rows)
 }
 

@@ -4,8 +4,7 @@ ghost use Rattle.std.specs.Prelude.{◌≡◌, ◌<◌, IfOk, length, map, slice
 ghost use Rattle.std.specs.Option.{option_copied, option_map};
 ghost use Rattle.au_closed_trees.specs.Views.{case_said, cases_said, fields_said};
 ghost use Rattle.au_closed_programs.specs.Views.{row_said, rows_said};
-ghost use Rattle.au_type_texts.specs.Views.{closed_meaning};
-ghost use Rattle.au_closed_meanings.specs.Programs.{case_from, row_in};
+ghost use Rattle.au_closed_meanings.specs.Programs.{case_from};
 ghost use Rattle.au_closed_meanings.specs.Surroundings.{field_names};
 ghost use Rattle.au_closed_meanings.specs.Views.{found_said};
 ghost use Rattle.au_lowering.specs.Views.{case_in, row_held, rows_held};
@@ -17,7 +16,6 @@ use au_base::{Memory, Name};
 use au_closed_meanings::Found;
 use au_closed_programs::TypeRow;
 use au_closed_trees::{ClosedCase, ClosedField};
-use au_type_texts::{Closed, is_same};
 use std::alloc::Global;
 
 /// The number and the type of the field of a name.
@@ -139,19 +137,6 @@ pub fn see_rows<'a>(alloc: Global, rows: &'a Vec<TypeRow>) -> Result<Vec<SeenRow
         made.push(row)?;
     }
     Ok(made)
-}
-
-/// The row of a type. It is found by a walk through the rows; a table by keys would find it without one.
-pub fn find_row<'r, 'a>(rows: &'r Vec<SeenRow<'a>>, of: &Closed) -> Option<&'r SeenRow<'a>>
-    ensures { option_map row_held (option_copied result)
-        ≡ row_in (rows_held rows.now.items) (closed_meaning of.now) }
-{
-    for one in rows {
-        if is_same(one.of, of) {
-            return Some(one);
-        }
-    }
-    None
 }
 
 /// The case of a number.

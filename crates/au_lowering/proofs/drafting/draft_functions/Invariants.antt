@@ -10,5 +10,5 @@ use Rattle.au_lowering.proofs.drafting.draft_functions.Given as goal
 abbrev pub invariant-loop-one : goal.invariant-loop-one
 invariant-loop-one l =
     all_said l.made.items
-    ≡ map (drafted_from (map body_seen (functions_said l.functions.items)) (rows_held l.rows.items))
+    ≡ map (drafted_from (map body_seen (functions_said l.functions.items)) (rows_held l.rows.rows.items))
     (map body_seen (functions_said (take l.one-index l.one-items)))
