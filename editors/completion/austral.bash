@@ -1,7 +1,7 @@
 # Completion of `austral` for bash: source this file, or put it into the folder of completions as `austral`.
 
 # The commands, and the options of each. A command or an option that comes is added here and in the case below.
-_austral_commands='check compile explain format run --help --version'
+_austral_commands='caps check compile explain format run --help --version'
 _austral_options() {
   case $1 in
     compile) echo '--entry=' ;;

@@ -19,6 +19,7 @@ function __austral_files
 end
 
 complete -c austral -f
+complete -c austral -n __austral_no_command -a caps -d 'Tell what each function can do with capabilities'
 complete -c austral -n __austral_no_command -a check -d 'Say whether the program is accepted'
 complete -c austral -n __austral_no_command -a compile -d 'Judge the program, and write it as C'
 complete -c austral -n __austral_no_command -a explain -d 'Write the life of each resource'

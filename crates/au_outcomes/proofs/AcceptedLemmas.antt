@@ -49,9 +49,10 @@ use Rattle.au_outcomes.specs.Accepted.{Accepted, AreAcceptedAs, is_behind, judge
 use Rattle.au_outcomes.specs.Halts.{IsUnhad}
 use Rattle.au_outcomes.specs.Layouts.{LaidCome}
 use Rattle.au_outcomes.specs.Outcomes.{AskedCome, BytesCome, Comes, IsFirst}
-use Rattle.au_outcomes.specs.Programs.{AcceptedCome, CompileComes, ReadsCome, RunComes, bodies_outcome}
+use Rattle.au_outcomes.specs.Programs.{AcceptedCome, CompileComes, ReadsCome, ReportComes, RunComes, bodies_outcome}
 use Rattle.au_outcomes.specs.Programs.{class_outcome, declaration_outcome, import_outcome, judged_by, life_outcome}
-use Rattle.au_outcomes.specs.Programs.{module_outcome, modules_outcome, program_files, program_outcome, type_outcome}
+use Rattle.au_outcomes.specs.Programs.{module_outcome, modules_outcome, program_files, program_modules}
+use Rattle.au_outcomes.specs.Programs.{program_outcome, type_outcome}
 use Rattle.au_outcomes.specs.Trees.{AreRead, FirstHalts, Halts, ReadFile}
 use Rattle.au_outcomes.specs.declared.outcomes.Aim.{Aim}
 use Rattle.au_outcomes.specs.declared.outcomes.Aim.TheVariants as aims
@@ -258,6 +259,10 @@ compile_behind : (reads : List ReadFile) (x : Outcome) → CompileComes reads x 
 compile_behind reads (outcome.Compiles program) h = refl
 compile_behind reads other h = absurd h
 
+report_behind : (program : List ModuleParts) (x : Outcome) → ReportComes program x → is_behind x ≡ true
+report_behind program (outcome.Reported report) h = refl
+report_behind program other h = absurd h
+
 accepted_come_behind : (aim : Aim) (reads : List ReadFile) (x : Outcome) → AcceptedCome aim reads x
     → is_behind x ≡ true
 accepted_come_behind aims.Run reads x h = run_behind reads x h
@@ -265,6 +270,7 @@ accepted_come_behind aims.Compile reads x h = compile_behind reads x h
 accepted_come_behind aims.Check reads x h = ap is_behind h
 accepted_come_behind aims.Explain reads x h = ap is_behind h
 accepted_come_behind aims.Format reads x h = ap is_behind h
+accepted_come_behind aims.Caps reads x h = report_behind (program_modules reads) x h
 
 -- ---- accepted files
 
@@ -291,6 +297,7 @@ judged_come aims.Compile all reads x judged h = h
 judged_come aims.Check all reads x judged h = h
 judged_come aims.Explain all reads x judged h = h
 judged_come aims.Format all reads x judged h = absurd (let e : false ≡ true = judged in cc)
+judged_come aims.Caps all reads x judged h = h
 
 come_judged : (aim : Aim) (all : List (List ℕ)) (reads : List ReadFile) (x : Outcome) → judges aim ≡ true
     → AskedCome aim all reads x → ReadsCome aim reads x
@@ -299,6 +306,7 @@ come_judged aims.Compile all reads x judged h = h
 come_judged aims.Check all reads x judged h = h
 come_judged aims.Explain all reads x judged h = h
 come_judged aims.Format all reads x judged h = absurd (let e : false ≡ true = judged in cc)
+come_judged aims.Caps all reads x judged h = h
 
 -- they come to what is asked
 pub asked_comes : (aim : Aim) (files : Files) (names all : List (List ℕ)) (reads : List ReadFile) (x : Outcome)
@@ -360,6 +368,7 @@ asked_behind aims.Compile all reads x h behind = read_behind aims.Compile reads 
 asked_behind aims.Check all reads x h behind = read_behind aims.Check reads x h behind
 asked_behind aims.Explain all reads x h behind = read_behind aims.Explain reads x h behind
 asked_behind aims.Format all reads x h behind = never_both (is_behind x) behind (laid_before all x h)
+asked_behind aims.Caps all reads x h behind = read_behind aims.Caps reads x h behind
 
 -- what of such files was read
 IsReadSo : List (List ℕ) → List ReadFile → Type 0
@@ -410,6 +419,7 @@ asked_judged aims.Compile all reads x h behind = refl
 asked_judged aims.Check all reads x h behind = refl
 asked_judged aims.Explain all reads x h behind = refl
 asked_judged aims.Format all reads x h behind = never_both (is_behind x) behind (laid_before all x h)
+asked_judged aims.Caps all reads x h behind = refl
 
 bytes_judged : (aim : Aim) (all : List (List ℕ)) (x : Outcome) → BytesCome aim all x → is_behind x ≡ true
     → judges aim ≡ true

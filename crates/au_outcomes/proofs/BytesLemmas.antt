@@ -17,7 +17,7 @@ use Rattle.au_rules.specs.declared.faults.DeclFault.TheVariants as rules
 use Rattle.au_rules.specs.DeclFaults.{decl_fault}
 use Rattle.au_outcomes.specs.Layouts.{AreLaid, LaidCome}
 use Rattle.au_outcomes.specs.Outcomes.{AskedCome, BytesCome}
-use Rattle.au_outcomes.specs.Programs.{AcceptedCome, AreOne, CompileComes, ReadsCome, RunComes}
+use Rattle.au_outcomes.specs.Programs.{AcceptedCome, AreOne, CompileComes, ReadsCome, ReportComes, RunComes}
 use Rattle.au_outcomes.specs.Programs.{bodies_outcome, class_outcome, declaration_outcome, import_outcome, judged_by}
 use Rattle.au_outcomes.specs.Programs.{life_outcome, module_outcome, modules_outcome, program_files, program_modules}
 use Rattle.au_outcomes.specs.Programs.{program_outcome, type_outcome}
@@ -27,6 +27,7 @@ use Rattle.au_outcomes.specs.declared.outcomes.Aim.TheVariants as aims
 use Rattle.au_outcomes.specs.declared.outcomes.Outcome.{Outcome}
 use Rattle.au_outcomes.specs.declared.outcomes.Outcome.TheVariants as outcome
 use Rattle.au_outcomes.specs.declared.refusals.Refusal.TheVariants as refusal
+use Rattle.au_outcomes.proofs.ReportLemmas.{reports_same}
 use Rattle.au_outcomes.proofs.FaultLemmas.{judged_found, of_declarations, of_imports, of_instances, of_lives}
 use Rattle.au_outcomes.proofs.FaultLemmas.{of_modules, of_types, or_some}
 use Rattle.au_outcomes.proofs.HaltLemmas.{is_of_files, are_read_same, first_found, first_halts_or_read}
@@ -42,6 +43,7 @@ one_self (outcome.Refused refusal) = refl
 one_self outcome.Accepted = refl
 one_self (outcome.Explained lives) = refl
 one_self (outcome.Laid text) = refl
+one_self (outcome.Reported report) = refl
 one_self (outcome.Runs program) = refl
 one_self (outcome.Compiles program) = refl
 
@@ -70,6 +72,14 @@ compile_same reads (outcome.Compiles program) (outcome.Compiles other) a b = a �
 compile_same reads (outcome.Compiles program) other a b = absurd b
 compile_same reads other y a b = absurd a
 
+-- and what one comes to that is asked what it can do with capabilities
+report_same : (program : List ModuleParts) (x y : Outcome) → ReportComes program x → ReportComes program y → AreOne x y
+report_same program (outcome.Reported report) (outcome.Reported other) a b =
+    are_one (outcome.Reported report) (outcome.Reported other)
+    (ap outcome.Reported (reports_same program a.0 b.0 report other a.1 b.1 a.2 b.2))
+report_same program (outcome.Reported report) other a b = absurd b
+report_same program other y a b = absurd a
+
 -- what accepted files come to is one thing
 accepted_same : (aim : Aim) (reads : List ReadFile) (x y : Outcome) → AcceptedCome aim reads x
     → AcceptedCome aim reads y → AreOne x y
@@ -78,6 +88,7 @@ accepted_same aims.Compile reads x y a b = compile_same reads x y a b
 accepted_same aims.Check reads x y a b = are_one x y (a ∙ sym b)
 accepted_same aims.Explain reads x y a b = are_one x y (a ∙ sym b)
 accepted_same aims.Format reads x y a b = are_one x y (a ∙ sym b)
+accepted_same aims.Caps reads x y a b = report_same (program_modules reads) x y a b
 
 -- files that were read come to one thing
 reads_same : (aim : Aim) (reads : List ReadFile) (x y : Outcome) → ReadsCome aim reads x → ReadsCome aim reads y
@@ -117,6 +128,7 @@ asked_same aims.Compile all reads x y a b = reads_same aims.Compile reads x y a 
 asked_same aims.Check all reads x y a b = reads_same aims.Check reads x y a b
 asked_same aims.Explain all reads x y a b = reads_same aims.Explain reads x y a b
 asked_same aims.Format all reads x y a b = laid_same all x y a b
+asked_same aims.Caps all reads x y a b = reads_same aims.Caps reads x y a b
 
 -- the bytes of files come to one thing
 pub bytes_same : (aim : Aim) (all : List (List ℕ)) (x y : Outcome) → BytesCome aim all x → BytesCome aim all y
@@ -171,6 +183,10 @@ compile_found : (reads : List ReadFile) (x : Outcome) → CompileComes reads x �
 compile_found reads (outcome.Compiles program) h = refl
 compile_found reads other h = absurd h
 
+report_found : (program : List ModuleParts) (x : Outcome) → ReportComes program x → is_of_files x ≡ true
+report_found program (outcome.Reported report) h = refl
+report_found program other h = absurd h
+
 accepted_found : (aim : Aim) (reads : List ReadFile) (x : Outcome) → AcceptedCome aim reads x
     → is_of_files x ≡ true
 accepted_found aims.Run reads x h = run_found reads x h
@@ -178,6 +194,7 @@ accepted_found aims.Compile reads x h = compile_found reads x h
 accepted_found aims.Check reads x h = ap is_of_files h
 accepted_found aims.Explain reads x h = ap is_of_files h
 accepted_found aims.Format reads x h = ap is_of_files h
+accepted_found aims.Caps reads x h = report_found (program_modules reads) x h
 
 reads_found : (aim : Aim) (reads : List ReadFile) (x : Outcome) → ReadsCome aim reads x → is_of_files x ≡ true
 reads_found aim reads x h = elim h [
@@ -196,6 +213,7 @@ asked_found aims.Compile all reads x h = reads_found aims.Compile reads x h
 asked_found aims.Check all reads x h = reads_found aims.Check reads x h
 asked_found aims.Explain all reads x h = reads_found aims.Explain reads x h
 asked_found aims.Format all reads x h = laid_found all x h
+asked_found aims.Caps all reads x h = reads_found aims.Caps reads x h
 
 pub bytes_found : (aim : Aim) (all : List (List ℕ)) (x : Outcome) → BytesCome aim all x → is_of_files x ≡ true
 bytes_found aim all x h = elim h [

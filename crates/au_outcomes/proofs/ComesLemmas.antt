@@ -48,6 +48,7 @@ judged_come aims.Compile all x judged h = h
 judged_come aims.Check all x judged h = h
 judged_come aims.Explain all x judged h = h
 judged_come aims.Format all x judged h = absurd (let e : false ≡ true = judged in cc)
+judged_come aims.Caps all x judged h = h
 
 pub judged_says : (aim : Aim) (all : List (List ℕ)) (r : Result Outcome Halt) → judges aim ≡ true
     → Says r (JudgedCome aim all) (JudgedCome aim all) → Says r (BytesCome aim all) (BytesCome aim all)
@@ -62,6 +63,7 @@ not_judged aims.Compile h = absurd (let e : true ≡ false = h in cc)
 not_judged aims.Check h = absurd (let e : true ≡ false = h in cc)
 not_judged aims.Explain h = absurd (let e : true ≡ false = h in cc)
 not_judged aims.Format h = refl
+not_judged aims.Caps h = absurd (let e : true ≡ false = h in cc)
 
 pub laid_says : (aim : Aim) (all : List (List ℕ)) (r : Result Outcome Halt) → judges aim ≡ false
     → Says r (BytesCome aims.Format all) (BytesCome aims.Format all) → Says r (BytesCome aim all) (BytesCome aim all)

@@ -35,6 +35,7 @@ early_before (outcome.Missing name) h = refl
 early_before outcome.Accepted h = absurd (let e : false ≡ true = h in cc)
 early_before (outcome.Explained lives) h = absurd (let e : false ≡ true = h in cc)
 early_before (outcome.Laid text) h = refl
+early_before (outcome.Reported report) h = absurd (let e : false ≡ true = h in cc)
 early_before (outcome.Runs program) h = absurd (let e : false ≡ true = h in cc)
 early_before (outcome.Compiles program) h = absurd (let e : false ≡ true = h in cc)
 

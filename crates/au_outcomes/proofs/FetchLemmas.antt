@@ -61,6 +61,7 @@ module _ (aim : Aim) (files : Files) (names : List (List ℕ)) where
   few_had outcome.Accepted h = inr h
   few_had (outcome.Explained lives) h = inr h
   few_had (outcome.Laid text) h = inr h
+  few_had (outcome.Reported report) h = inr h
   few_had (outcome.Runs program) h = inr h
   few_had (outcome.Compiles program) h = inr h
 
@@ -77,6 +78,8 @@ module _ (aim : Aim) (files : Files) (names : List (List ℕ)) where
       absurd (first_any (λ one. IsUnhad files one (outcome.Explained lives)) files names h).1
   unhad_few (outcome.Laid text) h =
       absurd (first_any (λ one. IsUnhad files one (outcome.Laid text)) files names h).1
+  unhad_few (outcome.Reported report) h =
+      absurd (first_any (λ one. IsUnhad files one (outcome.Reported report)) files names h).1
   unhad_few (outcome.Runs program) h =
       absurd (first_any (λ one. IsUnhad files one (outcome.Runs program)) files names h).1
   unhad_few (outcome.Compiles program) h =
@@ -92,6 +95,7 @@ module _ (aim : Aim) (files : Files) (names : List (List ℕ)) where
   files_few all outcome.Accepted are h proper = (all, are, h)
   files_few all (outcome.Explained lives) are h proper = (all, are, h)
   files_few all (outcome.Laid text) are h proper = (all, are, h)
+  files_few all (outcome.Reported report) are h proper = (all, are, h)
   files_few all (outcome.Runs program) are h proper = (all, are, h)
   files_few all (outcome.Compiles program) are h proper = (all, are, h)
 

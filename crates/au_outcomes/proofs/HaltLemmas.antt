@@ -216,6 +216,7 @@ is_halt file bytes (outcome.Missing name) h = absurd h
 is_halt file bytes outcome.Accepted h = absurd h
 is_halt file bytes (outcome.Explained lives) h = absurd h
 is_halt file bytes (outcome.Laid text) h = absurd h
+is_halt file bytes (outcome.Reported report) h = absurd h
 is_halt file bytes (outcome.Runs program) h = absurd h
 is_halt file bytes (outcome.Compiles program) h = absurd h
 
@@ -235,6 +236,7 @@ is_of_files (outcome.Refused refusal) = is_refusal refusal
 is_of_files outcome.Accepted = true
 is_of_files (outcome.Explained lives) = true
 is_of_files (outcome.Laid text) = true
+is_of_files (outcome.Reported report) = true
 is_of_files (outcome.Runs program) = true
 is_of_files (outcome.Compiles program) = true
 
@@ -246,6 +248,7 @@ not_missing (outcome.Refused refusal) h = refl
 not_missing outcome.Accepted h = refl
 not_missing (outcome.Explained lives) h = refl
 not_missing (outcome.Laid text) h = refl
+not_missing (outcome.Reported report) h = refl
 not_missing (outcome.Runs program) h = refl
 not_missing (outcome.Compiles program) h = refl
 

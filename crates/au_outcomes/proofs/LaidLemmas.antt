@@ -96,6 +96,7 @@ accepted_laid aims.Compile reads text h = h
 accepted_laid aims.Check reads text h = let e : outcome.Laid text ≡ outcome.Accepted = h in cc
 accepted_laid aims.Explain reads text h = let e : outcome.Laid text ≡ outcome.Explained (read_lives reads) = h in cc
 accepted_laid aims.Format reads text h = let e : outcome.Laid text ≡ outcome.Accepted = h in cc
+accepted_laid aims.Caps reads text h = h
 
 program_laid : (files : List Entry) (text : List ℕ) → program_outcome files ≡ Some (outcome.Laid text) → ⊥
 program_laid files text h = let e : false ≡ true = judged_before files (outcome.Laid text) h in cc
@@ -114,6 +115,7 @@ read_laid aims.Compile all reads text h = absurd (judged_laid aims.Compile reads
 read_laid aims.Check all reads text h = absurd (judged_laid aims.Check reads text h)
 read_laid aims.Explain all reads text h = absurd (judged_laid aims.Explain reads text h)
 read_laid aims.Format all reads text h = (refl, h)
+read_laid aims.Caps all reads text h = absurd (judged_laid aims.Caps reads text h)
 
 -- the bytes of files that come to a layout are laid out
 bytes_laid : (aim : Aim) (all : List (List ℕ)) (text : List ℕ) → BytesCome aim all (outcome.Laid text)

@@ -1,6 +1,7 @@
 pub mod FetchLemmas
 pub mod HaltLemmas
 pub mod FaultLemmas
+pub mod ReportLemmas
 pub mod BytesLemmas
 pub mod NameLemmas
 pub mod KeptLemmas

@@ -129,6 +129,7 @@ few_outcome aim files names (outcome.Refused refusal) h = bytes_found aim h.0 (o
 few_outcome aim files names outcome.Accepted h = refl
 few_outcome aim files names (outcome.Explained lives) h = refl
 few_outcome aim files names (outcome.Laid text) h = refl
+few_outcome aim files names (outcome.Reported report) h = refl
 few_outcome aim files names (outcome.Runs program) h = refl
 few_outcome aim files names (outcome.Compiles program) h = refl
 

@@ -47,9 +47,10 @@ judges aims.Compile = true
 judges aims.Check = true
 judges aims.Explain = true
 judges aims.Format = false
+judges aims.Caps = true
 
 -- whether files come to this behind the steps that judge whether they are accepted: that is told, or the
--- lives of its variables are, or the program is to run or to be compiled
+-- lives of its variables are, or what it can do with capabilities, or the program is to run or to be compiled
 abbrev pub is_behind : Outcome → Bool
 is_behind outcome.NoJob = false
 is_behind (outcome.Missing name) = false
@@ -58,5 +59,6 @@ is_behind (outcome.Refused refusal) = false
 is_behind outcome.Accepted = true
 is_behind (outcome.Explained lives) = true
 is_behind (outcome.Laid text) = false
+is_behind (outcome.Reported report) = true
 is_behind (outcome.Runs program) = true
 is_behind (outcome.Compiles program) = true

@@ -37,6 +37,7 @@ is_missing (outcome.Refused refusal) = false
 is_missing outcome.Accepted = false
 is_missing (outcome.Explained lives) = false
 is_missing (outcome.Laid text) = false
+is_missing (outcome.Reported report) = false
 is_missing (outcome.Runs program) = false
 is_missing (outcome.Compiles program) = false
 
@@ -87,6 +88,7 @@ IsUnhad files name (outcome.Refused refusal) = ⊥
 IsUnhad files name outcome.Accepted = ⊥
 IsUnhad files name (outcome.Explained lives) = ⊥
 IsUnhad files name (outcome.Laid text) = ⊥
+IsUnhad files name (outcome.Reported report) = ⊥
 IsUnhad files name (outcome.Runs program) = ⊥
 IsUnhad files name (outcome.Compiles program) = ⊥
 

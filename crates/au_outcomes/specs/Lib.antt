@@ -1,5 +1,7 @@
 pub use Rattle.au_explain.specs.declared.lists.Lives
 pub use Rattle.au_explain.specs.Faults
+pub use Rattle.au_caps_text.specs.declared.reports.Report
+pub use Rattle.au_caps.specs.Reports
 pub mod Refusals
 pub mod Lines
 pub mod Trees
@@ -10,4 +12,5 @@ pub mod Halts
 pub mod Reading
 pub mod Accepted
 pub mod Explain
+pub mod Caps
 pub mod NotingPrograms

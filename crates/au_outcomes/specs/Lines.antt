@@ -30,7 +30,7 @@ line text = text ++ 10 ∷ []
 
 -- the line where the words are no job
 abbrev pub words_line : List ℕ
-words_line = line (codes "words: run [--entry=M:f] [--steps=N] [--life] PART.. | compile [--entry=M:f] PART.. | explain PART.. | check PART.. | format FILE")
+words_line = line (codes "words: run [--entry=M:f] [--steps=N] [--life] PART.. | compile [--entry=M:f] PART.. | explain PART.. | check PART.. | format FILE | caps PART..")
 
 -- the line where no file has the name
 abbrev pub missing_line : List ℕ → List ℕ

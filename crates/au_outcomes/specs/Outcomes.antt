@@ -22,6 +22,7 @@ is_outcome (outcome.Refused refusal) = is_refusal refusal
 is_outcome outcome.Accepted = true
 is_outcome (outcome.Explained lives) = true
 is_outcome (outcome.Laid text) = true
+is_outcome (outcome.Reported report) = true
 is_outcome (outcome.Runs program) = true
 is_outcome (outcome.Compiles program) = true
 
@@ -72,6 +73,7 @@ AskedCome aims.Compile all reads arisen = ReadsCome aims.Compile reads arisen
 AskedCome aims.Check all reads arisen = ReadsCome aims.Check reads arisen
 AskedCome aims.Explain all reads arisen = ReadsCome aims.Explain reads arisen
 AskedCome aims.Format all reads arisen = LaidCome all arisen
+AskedCome aims.Caps all reads arisen = ReadsCome aims.Caps reads arisen
 
 -- What a program comes to of which this is asked, by the bytes of its files: the first file that can't be
 -- read counts, and where each is read, what is read.
@@ -96,6 +98,7 @@ FewCome aim files names (outcome.Refused refusal) = FilesCome aim files names (o
 FewCome aim files names outcome.Accepted = FilesCome aim files names outcome.Accepted
 FewCome aim files names (outcome.Explained lives) = FilesCome aim files names (outcome.Explained lives)
 FewCome aim files names (outcome.Laid text) = FilesCome aim files names (outcome.Laid text)
+FewCome aim files names (outcome.Reported report) = FilesCome aim files names (outcome.Reported report)
 FewCome aim files names (outcome.Runs program) = FilesCome aim files names (outcome.Runs program)
 FewCome aim files names (outcome.Compiles program) = FilesCome aim files names (outcome.Compiles program)
 

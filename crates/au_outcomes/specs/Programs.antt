@@ -20,7 +20,9 @@ use Rattle.au_imports.specs.Importing as importing
 use Rattle.au_explain.specs.Programs.{program_lives}
 use Rattle.au_sights.specs.declared.faults.TypeFault.{TypeFault}
 use Rattle.au_sights.specs.declared.faults.TypeFault.TheVariants as typing
-use Rattle.au_explain.specs.Faults.{type_fault}
+use Rattle.au_explain.specs.Faults.{IsDerived, type_fault}
+use Rattle.au_caps.specs.Reports.{IsReportOf}
+use Rattle.au_typing.specs.Trees.{NotedParts}
 use Rattle.au_program_lives.specs.declared.faults.LinearFault.{LinearFault}
 use Rattle.au_program_lives.specs.declared.faults.LinearFault.TheVariants as lives
 use Rattle.au_program_lives.specs.LinearFaults.{linear_fault}
@@ -117,6 +119,13 @@ abbrev pub CompileComes : List ReadFile → Outcome → Type 0
 CompileComes reads (outcome.Compiles program) = slots.modules program ≡ program_modules reads
 CompileComes reads other = ⊥
 
+-- What an accepted program comes to that is asked what it can do with capabilities: the rules of typing derive
+-- its modules with some notes, and it comes to the report of the program with these.
+abbrev pub ReportComes : List ModuleParts → Outcome → Type 0
+ReportComes program (outcome.Reported report) =
+    (noted : List NotedParts) × IsDerived program noted × IsReportOf program noted report
+ReportComes program other = ⊥
+
 -- Nothing is refused of files, and these are their modules.
 abbrev pub AreJudgedAs : List Entry → List ModuleParts → Type 0
 AreJudgedAs files parts = (program_outcome files ≡ None) × (parts ≡ modules_of files)
@@ -126,14 +135,16 @@ abbrev pub read_lives : List ReadFile → Lives
 read_lives reads = program_lives (program_modules reads)
 
 -- What accepted files come to: where no more is asked they are accepted, where they are explained they come
--- to the lives of their variables, and where their program is to run or to be compiled that is what they come
--- to. (Of files that are laid out it isn't asked whether they are accepted.)
+-- to the lives of their variables, where it is asked what they can do with capabilities they come to the report
+-- on that, and where their program is to run or to be compiled that is what they come to. (Of files that are
+-- laid out it isn't asked whether they are accepted.)
 abbrev pub AcceptedCome : Aim → List ReadFile → Outcome → Type 0
 AcceptedCome aims.Run reads arisen = RunComes reads arisen
 AcceptedCome aims.Compile reads arisen = CompileComes reads arisen
 AcceptedCome aims.Check reads arisen = arisen ≡ outcome.Accepted
 AcceptedCome aims.Explain reads arisen = arisen ≡ outcome.Explained (read_lives reads)
 AcceptedCome aims.Format reads arisen = arisen ≡ outcome.Accepted
+AcceptedCome aims.Caps reads arisen = ReportComes (program_modules reads) arisen
 
 -- What a program comes to whose files were read.
 abbrev pub ReadsCome : Aim → List ReadFile → Outcome → Type 0

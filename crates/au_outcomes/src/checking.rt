@@ -113,6 +113,7 @@ fn is_judged(aim: Aim) -> bool
         Aim::Check => true,
         Aim::Explain => true,
         Aim::Format => false,
+        Aim::Caps => true,
     }
 }
 

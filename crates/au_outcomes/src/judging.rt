@@ -8,7 +8,7 @@ ghost use Rattle.au_modules.specs.Programs.{entry};
 ghost use Rattle.au_modules.specs.Slots as slots;
 ghost use Rattle.au_outcomes.specs.Halts.{Says, is_read_halt};
 ghost use Rattle.au_outcomes.specs.Outcomes.{most_files};
-ghost use Rattle.au_outcomes.specs.Programs.{AcceptedCome, AreJudgedAs, bodies_outcome};
+ghost use Rattle.au_outcomes.specs.Programs.{AcceptedCome, AreJudgedAs, ReportComes, bodies_outcome};
 ghost use Rattle.au_outcomes.specs.Programs.{modules_outcome, program_modules, program_outcome};
 ghost use Rattle.au_outcomes.specs.Programs.{shipped_entries};
 ghost use Rattle.au_outcomes.specs.Trees.{ReadFile};
@@ -17,6 +17,7 @@ ghost use Rattle.au_outcomes.specs.declared.outcomes.Outcome.TheVariants as outc
 use crate::halts::Halt;
 use crate::outcomes::{Aim, Outcome};
 use au_base::Memory;
+use au_caps::caps_report;
 use au_classes::declare;
 use au_explain::{NotedProgram, lives_of, note_program};
 use au_imports::{Resolved, resolve};
@@ -87,8 +88,8 @@ fn with_shipped(alloc: Global, own: Vec<FileTree>) -> Result<Vec<FileTree>, Memo
 }
 
 /// What accepted files come to whose program is this: where no more is asked they are accepted, where they
-/// are explained they come to the lives of their variables, and where their program is to run or to be
-/// compiled that is what they come to.
+/// are explained they come to the lives of their variables, where their capabilities are asked for they come to
+/// the report on these, and where their program is to run or to be compiled that is what they come to.
 pub fn accepted_outcome(alloc: Global, aim: Aim, noted: NotedProgram) -> Result<Outcome, Halt>
     ensures comes { (reads : List ReadFile) → slots.modules noted ≡ program_modules reads
         → Says result (AcceptedCome aim reads) (AcceptedCome aim reads) }
@@ -97,6 +98,7 @@ pub fn accepted_outcome(alloc: Global, aim: Aim, noted: NotedProgram) -> Result<
     match aim {
         Aim::Check | Aim::Format => Ok(Outcome::Accepted),
         Aim::Explain => explained(alloc, &noted),
+        Aim::Caps => reported(alloc, &noted),
         Aim::Run => Ok(Outcome::Runs(noted)),
         Aim::Compile => Ok(Outcome::Compiles(noted)),
     }
@@ -111,4 +113,13 @@ fn explained(alloc: Global, noted: &NotedProgram) -> Result<Outcome, Halt>
 {
     let lives = lives_of(alloc, noted)?;
     Ok(Outcome::Explained(lives))
+}
+
+/// What the functions of an accepted program can do with capabilities.
+fn reported(alloc: Global, noted: &NotedProgram) -> Result<Outcome, Halt>
+    ensures comes { Says result (ReportComes (slots.modules noted.now)) (ReportComes (slots.modules noted.now)) }
+    ensures is_read { is_read_halt result ≡ false }
+{
+    let report = caps_report(alloc, noted)?;
+    Ok(Outcome::Reported(report))
 }

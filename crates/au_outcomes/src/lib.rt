@@ -12,6 +12,7 @@ mod outcomes;
 mod reading;
 mod refusals;
 
+pub use au_caps::{CapsFault, Report, print_report};
 pub use au_explain::{Lives, NotedProgram, PrintFault, explain};
 pub use checking::{MOST_FILES, check};
 pub use halts::{CheckFault, Halt};

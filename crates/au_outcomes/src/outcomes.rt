@@ -2,6 +2,7 @@
 
 use crate::Refusal;
 use au_base::{Limit, Text};
+use au_caps::Report;
 use au_explain::{Lives, NotedProgram};
 
 /// What is asked of the program of files.
@@ -17,6 +18,8 @@ pub enum Aim {
     Explain,
     /// To be laid out, and not to be judged.
     Format,
+    /// To tell what its functions can do with capabilities.
+    Caps,
 }
 
 /// What words and files come to, where nothing fails and memory is there.
@@ -36,6 +39,8 @@ pub enum Outcome {
     Explained(Lives),
     /// The files have trees, and this is their layout.
     Laid(Text),
+    /// The program is accepted, and this is what its functions can do with capabilities.
+    Reported(Report),
     /// The program is accepted, and it is to run.
     Runs(NotedProgram),
     /// The program is accepted, and it is to be compiled.

@@ -41,6 +41,8 @@ module _ (words names : List (List ℕ)) (task : Task) (files : Files) (aim : Ai
       (task, job, same, subst (λ asked. Comes asked files names (outcome.Explained lives)) built comes)
   arises_from (outcome.Laid text) job same built comes =
       (task, job, same, subst (λ asked. Comes asked files names (outcome.Laid text)) built comes)
+  arises_from (outcome.Reported report) job same built comes =
+      (task, job, same, subst (λ asked. Comes asked files names (outcome.Reported report)) built comes)
   arises_from (outcome.Runs program) job same built comes =
       (task, job, same, subst (λ asked. Comes asked files names (outcome.Runs program)) built comes)
   arises_from (outcome.Compiles program) job same built comes =
@@ -68,6 +70,7 @@ arises_outcome words files names (outcome.Refused refusal) h = comes_outcome (as
 arises_outcome words files names outcome.Accepted h = refl
 arises_outcome words files names (outcome.Explained lives) h = refl
 arises_outcome words files names (outcome.Laid text) h = refl
+arises_outcome words files names (outcome.Reported report) h = refl
 arises_outcome words files names (outcome.Runs program) h = refl
 arises_outcome words files names (outcome.Compiles program) h = refl
 

@@ -16,6 +16,8 @@ use Rattle.au_outcomes.specs.Accepted.{Accepted, AreAcceptedAs, is_behind, judge
 use Rattle.au_outcomes.specs.Halts.{is_missing}
 use Rattle.au_outcomes.specs.Outcomes.{AreFiles, BytesCome, Comes, FewCome, is_outcome}
 use Rattle.au_outcomes.specs.Programs.{AreOne, CompileComes, RunComes, program_modules, read_lives}
+use Rattle.au_outcomes.specs.Report.{Report}
+use Rattle.au_outcomes.specs.Reports.{IsReportOf}
 use Rattle.au_outcomes.specs.Trees.{HasNoTree, HasTokens, IsRead, ReadFile}
 use Rattle.au_outcomes.specs.declared.outcomes.Aim.{Aim}
 use Rattle.au_outcomes.specs.declared.outcomes.Aim.TheVariants as aims
@@ -26,9 +28,11 @@ use Rattle.au_outcomes.proofs.AcceptedLemmas.{comes_asked}
 use Rattle.au_outcomes.proofs.LaidLemmas.{laid_asked}
 use Rattle.au_outcomes.proofs.FetchLemmas.{few_had}
 use Rattle.au_outcomes.proofs.HaltLemmas.{IsHalt, first_halt, read_at, treeless}
+use Rattle.au_outcomes.proofs.ReportLemmas.{report_come}
 use Rattle.au_outcomes.proofs.NameLemmas.{comes_same, files_same, first_or_files, many_or_few}
 use Rattle.au_top.specs.Calls.{HasPassed, HasSucceeded, IsMissingSo, IsRefusedSo, Pays}
-use Rattle.au_top.specs.Dues.{Arises, Due, IsAcceptedJob, IsCheck, IsCompile, IsExplain, IsRun, IsUnread, Owes}
+use Rattle.au_top.specs.Dues.{Arises, Due, IsAcceptedJob, IsCaps, IsCheck, IsCompile, IsExplain, IsRun, IsUnread}
+use Rattle.au_top.specs.Dues.{Owes}
 use Rattle.au_top.specs.Dues.{due_of}
 use Rattle.au_top.specs.Jobs.{asked_by, asked_of}
 use Rattle.au_top.specs.Streams.{Streams}
@@ -52,6 +56,7 @@ is_arisen words files names (outcome.Refused refusal) h = inr h
 is_arisen words files names outcome.Accepted h = inr h
 is_arisen words files names (outcome.Explained lives) h = inr h
 is_arisen words files names (outcome.Laid text) h = inr h
+is_arisen words files names (outcome.Reported report) h = inr h
 is_arisen words files names (outcome.Runs program) h = inr h
 is_arisen words files names (outcome.Compiles program) h = inr h
 
@@ -153,6 +158,7 @@ due_or_runs names (outcome.Refused refusal) = inl (_, refl)
 due_or_runs names outcome.Accepted = inl (_, refl)
 due_or_runs names (outcome.Explained lives) = inl (_, refl)
 due_or_runs names (outcome.Laid text) = inl (_, refl)
+due_or_runs names (outcome.Reported report) = inl (_, refl)
 due_or_runs names (outcome.Runs program) = inr (inl (program, refl))
 due_or_runs names (outcome.Compiles program) = inr (inr (program, refl))
 
@@ -181,6 +187,7 @@ module _ (names : List (List ℕ)) (ends : Status) (s : Streams) where
   paid_ends outcome.Accepted h = ap is_owed h.status
   paid_ends (outcome.Explained lives) h = ap is_owed h.status
   paid_ends (outcome.Laid text) h = ap is_owed h.status
+  paid_ends (outcome.Reported report) h = ap is_owed h.status
   paid_ends (outcome.Runs program) h = absurd h
   paid_ends (outcome.Compiles program) h = absurd h
 
@@ -206,6 +213,8 @@ module _ (names : List (List ℕ)) (ends : Status) (s : Streams) where
       (let e : status.Success ≡ status.Refused = sym h.status ∙ is in cc)
   refused_so (outcome.Laid text) good h is = absurd
       (let e : status.Success ≡ status.Refused = sym h.status ∙ is in cc)
+  refused_so (outcome.Reported report) good h is = absurd
+      (let e : status.Success ≡ status.Refused = sym h.status ∙ is in cc)
   refused_so (outcome.Runs program) good h is = absurd h
   refused_so (outcome.Compiles program) good h is = absurd h
 
@@ -222,6 +231,8 @@ module _ (names : List (List ℕ)) (ends : Status) (s : Streams) where
   passed_so (outcome.Explained lives) h is = absurd
       (let e : status.Success ≡ status.Limit = sym h.status ∙ is in cc)
   passed_so (outcome.Laid text) h is = absurd
+      (let e : status.Success ≡ status.Limit = sym h.status ∙ is in cc)
+  passed_so (outcome.Reported report) h is = absurd
       (let e : status.Success ≡ status.Limit = sym h.status ∙ is in cc)
   passed_so (outcome.Runs program) h is = absurd h
   passed_so (outcome.Compiles program) h is = absurd h
@@ -241,10 +252,12 @@ module _ (names : List (List ℕ)) (ends : Status) (s : Streams) where
       (let e : status.Success ≡ status.Missing = sym h.status ∙ is in cc)
   missing_so (outcome.Laid text) h is = absurd
       (let e : status.Success ≡ status.Missing = sym h.status ∙ is in cc)
+  missing_so (outcome.Reported report) h is = absurd
+      (let e : status.Success ≡ status.Missing = sym h.status ∙ is in cc)
   missing_so (outcome.Runs program) h is = absurd h
   missing_so (outcome.Compiles program) h is = absurd h
 
-  -- success was paid for files that are accepted, explained or laid out
+  -- success was paid for files that are accepted, explained, reported on or laid out
   pub succeeded_so : (arisen : Outcome) → IsPaidFor arisen → ends ≡ status.Success
       → HasSucceeded s names arisen
   succeeded_so outcome.NoJob h is = absurd (let e : status.Words ≡ status.Success = sym h.status ∙ is in cc)
@@ -256,7 +269,8 @@ module _ (names : List (List ℕ)) (ends : Status) (s : Streams) where
       (let e : status.Refused ≡ status.Success = sym h.status ∙ is in cc)
   succeeded_so outcome.Accepted h is = inl (refl, h.out_bytes)
   succeeded_so (outcome.Explained lives) h is = inr (inl (lives, refl, h.out_bytes))
-  succeeded_so (outcome.Laid text) h is = inr (inr (text, refl, h.out_bytes))
+  succeeded_so (outcome.Laid text) h is = inr (inr (inr (text, refl, h.out_bytes)))
+  succeeded_so (outcome.Reported report) h is = inr (inr (inl (report, refl, h.out_bytes)))
   succeeded_so (outcome.Runs program) h is = absurd h
   succeeded_so (outcome.Compiles program) h is = absurd h
 
@@ -275,6 +289,8 @@ module _ (names : List (List ℕ)) (ends : Status) (s : Streams) where
   words_so words files (outcome.Explained lives) arises h is = absurd
       (let e : status.Success ≡ status.Words = sym h.status ∙ is in cc)
   words_so words files (outcome.Laid text) arises h is = absurd
+      (let e : status.Success ≡ status.Words = sym h.status ∙ is in cc)
+  words_so words files (outcome.Reported report) arises h is = absurd
       (let e : status.Success ≡ status.Words = sym h.status ∙ is in cc)
   words_so words files (outcome.Runs program) arises h is = absurd h
   words_so words files (outcome.Compiles program) arises h is = absurd h
@@ -304,6 +320,7 @@ module _ (names : List (List ℕ)) (ends : Status) (s : Streams) where
   missing_no outcome.Accepted h other = refl
   missing_no (outcome.Explained lives) h other = refl
   missing_no (outcome.Laid text) h other = refl
+  missing_no (outcome.Reported report) h other = refl
   missing_no (outcome.Runs program) h other = refl
   missing_no (outcome.Compiles program) h other = refl
 
@@ -314,7 +331,10 @@ module _ (names : List (List ℕ)) (ends : Status) (s : Streams) where
     | inl p ↦ inl (ap is_behind p.0)
     | inr others ↦ elim others [
       | inl p ↦ inl (ap is_behind p.1)
-      | inr p ↦ inr (p.0, p.1)
+      | inr more ↦ elim more [
+        | inl p ↦ inl (ap is_behind p.1)
+        | inr p ↦ inr (p.0, p.1)
+      ]
     ]
   ]
 
@@ -432,6 +452,16 @@ explain_tells words files names all arisen task reads job arises good =
     comes_asked aims.Explain files task.files all reads arisen refl good
     (task_comes words files names arisen task aims.Explain job.0 (ap asked_by job.1) arises)
 
+-- accepted files of which it is asked what they can do with capabilities come to the report on that
+pub caps_tells : (words : List (List ℕ)) (files : Files) (names all : List (List ℕ)) (arisen : Outcome)
+    (task : Task) (reads : List ReadFile) → IsCaps words task → Arises words files names arisen
+    → (good : AreAcceptedAs files task.files all reads)
+    → (report : Report) × IsReportOf (program_modules reads) good.noted report × (arisen ≡ outcome.Reported report)
+caps_tells words files names all arisen task reads job arises good =
+    report_come (program_modules reads) good.noted arisen good.derives
+    (comes_asked aims.Caps files task.files all reads arisen refl good
+    (task_comes words files names arisen task aims.Caps job.0 (ap asked_by job.1) arises))
+
 -- ---- programs that are to run
 
 -- what isn't asked to run comes to no program to run
@@ -448,6 +478,12 @@ explain_runs files names program h =
     let e : outcome.Runs program ≡ outcome.Explained (read_lives good.1) =
     comes_asked aims.Explain files names good.0 good.1 (outcome.Runs program) refl good.2 h in
     cc
+
+caps_runs : (files : Files) (names : List (List ℕ)) (program : Modules)
+    → Comes aims.Caps files names (outcome.Runs program) → ⊥
+caps_runs files names program h =
+    let good = behind_accepted aims.Caps files names (outcome.Runs program) h refl in
+    comes_asked aims.Caps files names good.0 good.1 (outcome.Runs program) refl good.2 h
 
 pub format_runs : (files : Files) (names : List (List ℕ)) (program : Modules)
     → Comes aims.Format files names (outcome.Runs program) → ⊥
@@ -475,6 +511,7 @@ command_runs task files names program command.Compile is h =
 command_runs task files names program command.Explain is h = absurd (explain_runs files names program h)
 command_runs task files names program command.Check is h = absurd (check_runs files names program h)
 command_runs task files names program command.Format is h = absurd (format_runs files names program h)
+command_runs task files names program command.Caps is h = absurd (caps_runs files names program h)
 
 -- a job whose files come to a program that is to run is a run
 pub runs_run : (words : List (List ℕ)) (files : Files) (names : List (List ℕ)) (program : Modules)
@@ -557,6 +594,12 @@ run_compiles files names program h =
     let good = behind_accepted aims.Run files names (outcome.Compiles program) h refl in
     comes_asked aims.Run files names good.0 good.1 (outcome.Compiles program) refl good.2 h
 
+caps_compiles : (files : Files) (names : List (List ℕ)) (program : Modules)
+    → Comes aims.Caps files names (outcome.Compiles program) → ⊥
+caps_compiles files names program h =
+    let good = behind_accepted aims.Caps files names (outcome.Compiles program) h refl in
+    comes_asked aims.Caps files names good.0 good.1 (outcome.Compiles program) refl good.2 h
+
 pub format_compiles : (files : Files) (names : List (List ℕ)) (program : Modules)
     → Comes aims.Format files names (outcome.Compiles program) → ⊥
 format_compiles files names program h =
@@ -577,6 +620,7 @@ command_compiles task files names program command.Explain is h =
     absurd (explain_compiles files names program h)
 command_compiles task files names program command.Check is h = absurd (check_compiles files names program h)
 command_compiles task files names program command.Format is h = absurd (format_compiles files names program h)
+command_compiles task files names program command.Caps is h = absurd (caps_compiles files names program h)
 
 -- a job whose files come to a program that is to be compiled is a `compile`
 pub compiles_compile : (words : List (List ℕ)) (files : Files) (names : List (List ℕ)) (program : Modules)

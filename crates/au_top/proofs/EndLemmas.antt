@@ -360,14 +360,14 @@ module _ (call : Call) where
   )
 
   -- what ran, or was compiled, is accepted
-  ran_accepted : (files : Files) (task : Task) → Tells call files → IsJob call.words task → Whole
+  pub ran_accepted : (files : Files) (task : Task) → Tells call files → IsJob call.words task → Whole
       → Accepted files task.files
   ran_accepted files task is job r =
       due.task_accepted call.words files task job
       (due.arises_accepted call.words files r.task.files (outcome.Runs r.program) (whole_arises files is r)
       refl)
 
-  text_accepted : (files : Files) (task : Task) → Tells call files → IsJob call.words task → Text
+  pub text_accepted : (files : Files) (task : Task) → Tells call files → IsJob call.words task → Text
       → Accepted files task.files
   text_accepted files task is job t =
       due.task_accepted call.words files task job
@@ -435,7 +435,7 @@ module _ (call : Call) where
   ]
 
   -- what ended with success is accepted
-  succeeded_accepted : (files : Files) (task : Task) (aim : Aim) → Tells call files → IsJob call.words task
+  pub succeeded_accepted : (files : Files) (task : Task) (aim : Aim) → Tells call files → IsJob call.words task
       → asked_of task ≡ aim → judges aim ≡ true → Paid → call.status ≡ status.Success
       → Accepted files task.files
   succeeded_accepted files task aim is job asked judged p succeeds =

@@ -38,6 +38,7 @@ use Rattle.au_top.specs.Streams.{Streams}
 use Rattle.au_top.proofs.DueLemmas as due
 use Rattle.au_top.proofs.EndLemmas as of
 use Rattle.au_top.proofs.SoundLemmas.{accepted_safe, safe_in_step}
+use Rattle.au_top.proofs.CapsLemmas.{ended_reported, ended_reported_only}
 use Rattle.au_top.proofs.FormatLemmas.{ended_formatted, ended_formatted_only}
 use Rattle.au_top.proofs.TextLemmas.{compile_promises}
 
@@ -139,8 +140,8 @@ none_behind files names arisen other same behind none comes =
     none good.1 (subst (λ o. RunComes good.1 o) same
     (comes_asked aims.Run files names good.0 good.1 arisen refl good.2 comes))
 
--- The files of a run come neither to that they are accepted nor to the lives of their variables nor to their
--- layout.
+-- The files of a run come neither to that they are accepted nor to the lives of their variables nor to a report
+-- on capabilities nor to their layout.
 run_succeeds : (words : List (List ℕ)) (files : Files) (names : List (List ℕ)) (arisen : Outcome)
     (task : Task) (s : Streams) → IsRun words task → Arises words files names arisen
     → HasSucceeded s names arisen → ⊥
@@ -151,10 +152,13 @@ run_succeeds words files names arisen task s job arises succeeded =
       | inl p ↦ none_behind files task.files arisen outcome.Accepted p.0 refl (λ reads h. h) comes
       | inr others ↦ elim others [
         | inl p ↦ none_behind files task.files arisen (outcome.Explained p.0) p.1 refl (λ reads h. h) comes
-        | inr p ↦
-            let asked = laid_asked aims.Run files task.files p.0
-            (subst (λ o. Comes aims.Run files task.files o) p.1 comes) in
-            absurd (let e : aims.Run ≡ aims.Format = asked in cc)
+        | inr more ↦ elim more [
+          | inl p ↦ none_behind files task.files arisen (outcome.Reported p.0) p.1 refl (λ reads h. h) comes
+          | inr p ↦
+              let asked = laid_asked aims.Run files task.files p.0
+              (subst (λ o. Comes aims.Run files task.files o) p.1 comes) in
+              absurd (let e : aims.Run ≡ aims.Format = asked in cc)
+        ]
       ]
     ]
 
@@ -309,6 +313,8 @@ module _ (call : Call) where
         λ task all reads job good accepted. of.ended_explained call h files task all reads is job good
         accepted;
     explained_only = λ task job succeeds. of.ended_explained_only call h files task is job succeeds;
+    reported = λ task all reads job good accepted. ended_reported call h files task all reads is job good accepted;
+    reported_only = λ task job succeeds. ended_reported_only call h files task is job succeeds;
     formatted = λ name text job good laid. ended_formatted call h files name text is job good laid;
     formatted_only = λ name job succeeds. ended_formatted_only call h files name is job succeeds;
     run = run_promises law steps h files is;

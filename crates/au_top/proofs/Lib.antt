@@ -5,6 +5,7 @@ pub mod SoundLemmas
 pub mod RunLemmas
 pub mod EndLemmas
 pub mod FormatLemmas
+pub mod CapsLemmas
 pub mod TextLemmas
 pub mod CompiledLemmas
 pub mod EnteredLemmas

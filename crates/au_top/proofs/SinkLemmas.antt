@@ -1,15 +1,13 @@
--- Lines that were said, lives that were told, and C text that was written, or were cut.
+-- Lines that were said, texts that were written, and C text that was, or were cut.
 use Rattle.std.proofs.Common.{◌≡◌, ℕ, List, [], Some, Result, Ok, Err, OnOk, OnErr, IfOk, IfErr, IsOkUnless}
 use Rattle.std.proofs.Common.{refl, inl, inr, sym, subst}
 use Rattle.au_base.specs.declared.statuses.Status.{Status}
 use Rattle.au_base.specs.declared.statuses.Status.TheVariants as status
 use Rattle.au_base.specs.Outside.{Adds}
 use Rattle.au_cprint.specs.Programs.{c_text}
-use Rattle.au_outcomes.specs.Explain.Lines.{life_text}
-use Rattle.au_outcomes.specs.Lives.{Lives}
 use Rattle.au_low.specs.declared.code.Code.{Code}
 use Rattle.au_top.specs.Calls.{Pays, Fails}
-use Rattle.au_top.specs.Dues.{due_line, explained_due}
+use Rattle.au_top.specs.Dues.{due_line, laid_due}
 use Rattle.au_top.specs.Ends.{PaysFor}
 use Rattle.au_top.specs.Streams.{Gains, GainsFront, HasFailed, HasStayed, Stream, Streams}
 use Rattle.au_top.specs.Texts.{text_due}
@@ -43,26 +41,26 @@ said_fails (Err answer.Write) ends text s stayed unless front failed =
 said_fails (Err answer.Memory) ends text s stayed unless front failed =
     let e : answer.Memory ≡ answer.Write = unless in cc
 
--- lives that were told, or were cut
-pub lives_pay : (r : Result Status AnswerFault) (lives : Lives) (s : Streams) → HasStayed s.err
-    → IfOk r (λ e. e ≡ status.Success) → OnOk r (Gains s.out (life_text lives))
-    → IfOk r (λ e. Pays (explained_due lives) e s)
-lives_pay (Ok e) lives s stayed same adds =
+-- a text that was written to `out`, or was cut
+pub written_pays : (r : Result Status AnswerFault) (text : List ℕ) (s : Streams) → HasStayed s.err
+    → IfOk r (λ e. e ≡ status.Success) → OnOk r (Gains s.out text)
+    → IfOk r (λ e. Pays (laid_due text) e s)
+written_pays (Ok e) text s stayed same adds =
     record { status = same; out_bytes = adds; err_bytes = gains_none s.err stayed }
-lives_pay (Err e) lives s stayed same adds = tt
+written_pays (Err e) text s stayed same adds = tt
 
-pub lives_fail : (r : Result Status AnswerFault) (lives : Lives) (s : Streams) → HasStayed s.err
-    → (r ≡ Err answer.Write → GainsFront s.out (life_text lives))
+pub written_fails : (r : Result Status AnswerFault) (text : List ℕ) (s : Streams) → HasStayed s.err
+    → (r ≡ Err answer.Write → GainsFront s.out text)
     → (r ≡ Err answer.Write → HasFailed s.out) → (r ≡ Err answer.Memory → HasStayed s.out)
-    → IfErr r (λ e. Fails e (explained_due lives) s)
-lives_fail (Ok e) lives s stayed front failed memory = tt
-lives_fail (Err answer.Write) lives s stayed front failed memory =
+    → IfErr r (λ e. Fails e (laid_due text) s)
+written_fails (Ok e) text s stayed front failed memory = tt
+written_fails (Err answer.Write) text s stayed front failed memory =
     record {
       out_bytes = front refl;
       err_bytes = (0, gains_none s.err stayed);
       risen = inl (failed refl, stayed);
     }
-lives_fail (Err answer.Memory) lives s stayed front failed memory = record { out = memory refl; err = stayed }
+written_fails (Err answer.Memory) text s stayed front failed memory = record { out = memory refl; err = stayed }
 
 -- C text that was written, or was cut
 pub text_pays : (r : Result Status AnswerFault) (code : Code) (s : Streams) → HasStayed s.err

@@ -66,6 +66,7 @@ module _ (law : AcceptedProgramsAreSound) where
   arises_safe words files names outcome.Accepted h = tt
   arises_safe words files names (outcome.Explained lives) h = tt
   arises_safe words files names (outcome.Laid text) h = tt
+  arises_safe words files names (outcome.Reported report) h = tt
   arises_safe words files names (outcome.Runs program) h =
       let run = runs_run words files names program h in
       let comes = run.2 in

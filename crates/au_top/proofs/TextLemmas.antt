@@ -113,7 +113,7 @@ none_behind files names arisen other same behind none comes =
     (comes_asked aims.Compile files names good.0 good.1 arisen refl good.2 comes))
 
 -- The files of a `compile` come neither to that they are accepted, nor to the lives of their variables, nor to
--- a layout.
+-- a report on capabilities, nor to a layout.
 compile_succeeds : (words : List (List ℕ)) (files : Files) (names : List (List ℕ)) (arisen : Outcome)
     (task : Task) (s : Streams) → IsCompile words task → Arises words files names arisen
     → HasSucceeded s names arisen → ⊥
@@ -124,11 +124,14 @@ compile_succeeds words files names arisen task s job arises succeeded =
       | inl p ↦ none_behind files task.files arisen outcome.Accepted p.0 refl (λ reads h. h) comes
       | inr others ↦ elim others [
         | inl p ↦ none_behind files task.files arisen (outcome.Explained p.0) p.1 refl (λ reads h. h) comes
-        | inr p ↦
-            let e : aims.Compile ≡ aims.Format =
-            laid_asked aims.Compile files task.files p.0
-            (subst (λ o. Comes aims.Compile files task.files o) p.1 comes) in
-            cc
+        | inr more ↦ elim more [
+          | inl p ↦ none_behind files task.files arisen (outcome.Reported p.0) p.1 refl (λ reads h. h) comes
+          | inr p ↦
+              let e : aims.Compile ≡ aims.Format =
+              laid_asked aims.Compile files task.files p.0
+              (subst (λ o. Comes aims.Compile files task.files o) p.1 comes) in
+              cc
+        ]
       ]
     ]
 

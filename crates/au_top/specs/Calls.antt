@@ -6,15 +6,20 @@ use Rattle.au_base.specs.declared.outside.Shelf as shelf
 use Rattle.au_base.specs.declared.statuses.Status.{Status}
 use Rattle.au_base.specs.declared.statuses.Status.TheVariants as status
 use Rattle.au_base.specs.Outside.{Files, HasRisen}
+use Rattle.au_outcomes.specs.Caps.Lines.{report_text}
 use Rattle.au_outcomes.specs.Explain.Lines.{life_text}
 use Rattle.au_outcomes.specs.Lives.{Lives}
+use Rattle.au_outcomes.specs.Report.{Report}
+use Rattle.au_outcomes.specs.Reports.{IsReportOf}
 use Rattle.au_modules.specs.declared.modules.Modules.{Modules}
+use Rattle.au_modules.specs.Programs.{ModuleParts}
 use Rattle.au_modules.specs.Slots as slots
+use Rattle.au_typing.specs.Trees.{NotedParts}
 use Rattle.au_words.specs.Jobs.{Task, IsJob}
 use Rattle.au_outcomes.specs.Accepted.{is_behind}
 use Rattle.au_outcomes.specs.Halts.{AreTold, StopsIn}
 use Rattle.au_outcomes.specs.Outcomes.{Comes}
-use Rattle.au_top.specs.Dues.{Due, IsCompile, IsRun, Owes, Arises, due_line, due_of}
+use Rattle.au_top.specs.Dues.{Due, IsCompile, IsRun, Owes, Arises, due_line, due_of, reported_due}
 use Rattle.au_top.specs.Runs.{BreaksOff, EndsAsRun, IsTold, Run, Runs, entry_of, line_of, run_of}
 use Rattle.au_top.specs.Streams.{Gains, GainsFront, HasFailed, HasStayed, NeverFailed, Streams}
 use Rattle.au_top.specs.Texts.{IsCoded, OwesText, coded_due}
@@ -190,15 +195,26 @@ IsExplained s names arisen =
 abbrev pub IsLaidOut : Streams → List (List ℕ) → Outcome → Type 0
 IsLaidOut s names arisen = (text : List ℕ) × (arisen ≡ outcome.Laid text) × Gains s.out text
 
--- Files are checked and accepted, or explained, or laid out.
+-- Files are accepted, and the text of the report on what they can do with capabilities stands on `out`.
+abbrev pub IsReported : Streams → List (List ℕ) → Outcome → Type 0
+IsReported s names arisen =
+    (report : Report) × (arisen ≡ outcome.Reported report) × Gains s.out (report_text report)
+
+-- Files are checked and accepted, or explained, or reported on, or laid out.
 abbrev pub HasSucceeded : Streams → List (List ℕ) → Outcome → Type 0
 HasSucceeded s names arisen =
-    IsSaidAccepted s names arisen ⊎ (IsExplained s names arisen ⊎ IsLaidOut s names arisen)
+    IsSaidAccepted s names arisen
+    ⊎ (IsExplained s names arisen ⊎ (IsReported s names arisen ⊎ IsLaidOut s names arisen))
 
 -- The steps that judge whether files are accepted have refused nothing, and what came behind them was paid:
--- that they are accepted, or the lives of their variables.
+-- that they are accepted, or the lives of their variables, or the report on what they can do with capabilities.
 abbrev pub HasComeBehind : Call → List (List ℕ) → Outcome → Type 0
 HasComeBehind call names arisen = IsTrue (is_behind arisen) × IsSomeAnd (due_of names arisen) (HasPaid call)
+
+-- What is due for the report of a program with these notes was paid. There is one such report.
+abbrev pub PaysReport : Call → List ModuleParts → List NotedParts → Type 0
+PaysReport call program noted =
+    (report : Report) × IsReportOf program noted report × HasPaid call (reported_due report)
 
 -- A file is missing.
 abbrev pub MissesFile : Call → Type 0
@@ -289,8 +305,8 @@ PassesLimit call =
     HasOutcome call (HasPassed call.streams)
     ⊎ ((limit : Limit) × (ReportsRun call (how.Limit limit) ⊎ ReportsText call (Err (uncoded.Limit limit))))
 
--- Files are accepted or explained or laid out, or their program ran and returned success, or its C text was
--- written.
+-- Files are accepted or explained or reported on or laid out, or their program ran and returned success, or its
+-- C text was written.
 abbrev pub Succeeds : Call → Type 0
 Succeeds call =
     HasOutcome call (HasSucceeded call.streams)

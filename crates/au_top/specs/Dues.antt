@@ -3,8 +3,10 @@ use Rattle.std.specs.Prelude.{IsTrue, ◌≡◌, ℕ, ◌<◌, ◌≤◌, List, 
 use Rattle.au_base.specs.declared.statuses.Status.{Status}
 use Rattle.au_base.specs.declared.statuses.Status.TheVariants as status
 use Rattle.au_base.specs.Outside.{Files}
+use Rattle.au_outcomes.specs.Caps.Lines.{report_text}
 use Rattle.au_outcomes.specs.Explain.Lines.{life_text}
 use Rattle.au_outcomes.specs.Lives.{Lives}
+use Rattle.au_outcomes.specs.Report.{Report}
 use Rattle.au_words.specs.Jobs.{Task, IsJob, IsNoJob}
 use Rattle.au_words.specs.declared.jobs.Command.TheVariants as command
 use Rattle.au_outcomes.specs.Lines.{words_line, accepted_line, missing_line, limit_line, refusal_line}
@@ -48,6 +50,10 @@ explained_due lives = record { status = status.Success; out = life_text lives; e
 abbrev pub laid_due : List ℕ → Due
 laid_due text = record { status = status.Success; out = text; err = [] }
 
+-- what is due for a program that is accepted, where it is told what it can do with capabilities
+abbrev pub reported_due : Report → Due
+reported_due report = record { status = status.Success; out = report_text report; err = [] }
+
 -- what is due for each outcome, but for a program that is to run, which owes what its run does, and for one
 -- that is to be compiled, which owes what is due for its code
 abbrev pub due_of : List (List ℕ) → Outcome → Option Due
@@ -58,6 +64,7 @@ due_of names (outcome.Refused refusal) = Some (due_line status.Refused (refusal_
 due_of names outcome.Accepted = Some accepted_due
 due_of names (outcome.Explained lives) = Some (explained_due lives)
 due_of names (outcome.Laid text) = Some (laid_due text)
+due_of names (outcome.Reported report) = Some (reported_due report)
 due_of names (outcome.Runs program) = None
 due_of names (outcome.Compiles program) = None
 
@@ -87,6 +94,10 @@ IsCheck words task = IsJob words task × (task.command ≡ command.Check)
 -- The words are this job, an `explain`.
 abbrev pub IsExplain : List (List ℕ) → Task → Type 0
 IsExplain words task = IsJob words task × (task.command ≡ command.Explain)
+
+-- The words are this job, a `caps`.
+abbrev pub IsCaps : List (List ℕ) → Task → Type 0
+IsCaps words task = IsJob words task × (task.command ≡ command.Caps)
 
 -- The words are this job, a `run`.
 abbrev pub IsRun : List (List ℕ) → Task → Type 0

@@ -12,6 +12,7 @@ asked_by command.Compile = aims.Compile
 asked_by command.Explain = aims.Explain
 asked_by command.Check = aims.Check
 asked_by command.Format = aims.Format
+asked_by command.Caps = aims.Caps
 
 -- the same of what is asked for
 abbrev pub asked_of : Task → Aim

@@ -4,7 +4,7 @@ use Rattle.au_base.specs.declared.statuses.Status.TheVariants as status
 use Rattle.au_base.specs.Outside.{Files, HasRisen}
 use Rattle.au_words.specs.Jobs.{IsNoJob, Task}
 use Rattle.au_outcomes.specs.Accepted.{Accepted, AreAcceptedAs}
-use Rattle.au_outcomes.specs.Programs.{read_lives}
+use Rattle.au_outcomes.specs.Programs.{program_modules, read_lives}
 use Rattle.au_outcomes.specs.Trees.{ReadFile}
 use Rattle.au_low.specs.declared.code.Code.{Code}
 use Rattle.au_running.specs.Closed.{code_of}
@@ -12,9 +12,9 @@ use Rattle.au_running.specs.declared.coding.Uncoded.{Uncoded}
 use Rattle.au_running.specs.declared.ran.Ran.TheVariants as how
 use Rattle.au_top.specs.Calls.{Aborts, Call, GoesBehind, HasPaid, HasProgram, IsDecided, IsDone}
 use Rattle.au_top.specs.Calls.{IsRefused, IsRunEnd, LacksMemory, LosesSink, LosesSource, MissesFile}
-use Rattle.au_top.specs.Calls.{PassesLimit, PaysText, ReportsRun, ShelfMissedNone, ShelfNeverFailed, Succeeds}
-use Rattle.au_top.specs.Calls.{Tells}
-use Rattle.au_top.specs.Dues.{AsksForTooMany, Due, IsAcceptedJob, IsCheck, IsCompile, IsExplain, IsRun}
+use Rattle.au_top.specs.Calls.{PassesLimit, PaysReport, PaysText, ReportsRun, ShelfMissedNone, ShelfNeverFailed}
+use Rattle.au_top.specs.Calls.{Succeeds, Tells}
+use Rattle.au_top.specs.Dues.{AsksForTooMany, Due, IsAcceptedJob, IsCaps, IsCheck, IsCompile, IsExplain, IsRun}
 use Rattle.au_top.specs.Dues.{IsUnread, Owes, accepted_due, explained_due, laid_due}
 use Rattle.au_top.specs.Formatted.{HasLayoutOf, IsFormat}
 use Rattle.au_top.specs.Entered.{CanCompile, CanRun, IsToRun}
@@ -101,6 +101,14 @@ pub record FilePromises (call : Call) (files : Files) : Type 0 where
       → AreAcceptedAs files task.files all reads → HasPaid call (explained_due (read_lives reads))
   pub explained_only :
       (task : Task) → IsExplain call.words task → call.status ≡ status.Success → Accepted files task.files
+  -- A job `caps` writes the report on what the functions of its files' program can do with capabilities, and
+  -- ends with 0, where the files are accepted, and it ends with 0 only there.
+  pub reported :
+      (task : Task) (all : List (List ℕ)) (reads : List ReadFile) → IsCaps call.words task → IsDecided call
+      → (accepted : AreAcceptedAs files task.files all reads)
+      → PaysReport call (program_modules reads) accepted.noted
+  pub reported_only :
+      (task : Task) → IsCaps call.words task → call.status ≡ status.Success → Accepted files task.files
   -- A job `format` writes the layout of its file, and ends with 0, where the file can be had and has a tree
   -- within the limits, and it ends with 0 only there.
   pub formatted :
@@ -131,7 +139,8 @@ pub record Promises (call : Call) : Type 0 where
   pub limit : call.status ≡ status.Limit → PassesLimit call
   pub missing_file : call.status ≡ status.Missing → MissesFile call
   -- 0 and 1 come by what the program returns, and 0 where it's checked and accepted, or where the lives of
-  -- its variables are told, or its C text is written, or its file is laid out.
+  -- its variables are told, or what it can do with capabilities, or its C text is written, or its file is laid
+  -- out.
   pub success : call.status ≡ status.Success → Succeeds call
   pub failure : call.status ≡ status.Failure → ReportsRun call (how.Exit false)
   -- 3 comes by an abort, whose cause its line tells, and 4 where the steps of the run were spent.

@@ -3,6 +3,7 @@
 ghost use Rattle.std.specs.Prelude.{◌≡◌, Err, OnOk, IfOk, IfErr, IfSome, IsTrue, map};
 ghost use Rattle.std.specs.String.{string_bytes};
 ghost use Rattle.au_base.specs.Outside.{HasRisen, Adds, AddsFront};
+ghost use Rattle.au_outcomes.specs.Caps.Lines.{report_text};
 ghost use Rattle.au_outcomes.specs.Explain.Lines.{life_text};
 ghost use Rattle.au_top.specs.Calls.{Fails, Pays};
 ghost use Rattle.au_outcomes.specs.Outcomes.{is_outcome};
@@ -15,12 +16,15 @@ use crate::compiling::compile;
 use crate::running::run;
 use crate::saying::{AnswerFault, say};
 use au_base::{Entry, Sink, Source, Status, put_all};
-use au_outcomes::{Lives, Outcome, PrintFault, explain, limit_line, missing_line, refusal_text};
+use au_outcomes::{
+    CapsFault, Lives, Outcome, PrintFault, Report, explain, limit_line, missing_line, print_report,
+    refusal_text,
+};
 use std::alloc::Global;
 
 /// The line for words that are no job.
 pub const WORDS_LINE: &[u8] =
-    b"words: run [--entry=M:f] [--steps=N] [--life] PART.. | compile [--entry=M:f] PART.. | explain PART.. | check PART.. | format FILE\n";
+    b"words: run [--entry=M:f] [--steps=N] [--life] PART.. | compile [--entry=M:f] PART.. | explain PART.. | check PART.. | format FILE | caps PART..\n";
 
 /// The line for a program that is checked and accepted.
 const ACCEPTED_LINE: &[u8] = b"accepted\n";
@@ -56,8 +60,27 @@ fn put_lives<O: Sink>(alloc: Global, lives: &Lives, out: &mut O) -> Result<Statu
     }
 }
 
+/// Writes the text of the report on what a program can do with capabilities, and ends with success.
+fn put_report<O: Sink>(alloc: Global, report: &Report, out: &mut O) -> Result<Status, AnswerFault>
+    ensures ok { IfOk result (λ ends. ends ≡ Status.Success) }
+    ensures written { OnOk result (Adds (O.written out.old) (O.written out.new) (report_text report.now)) }
+    ensures quiet { OnOk result (O.faults out.new ≡ O.faults out.old) }
+    ensures front { result ≡ Err AnswerFault.Write
+        → AddsFront (O.written out.old) (O.written out.new) (report_text report.now) }
+    ensures risen { result ≡ Err AnswerFault.Write → HasRisen (O.faults out.old) (O.faults out.new) }
+    ensures memory { result ≡ Err AnswerFault.Memory
+        → (O.written out.new ≡ O.written out.old) × (O.faults out.new ≡ O.faults out.old) }
+{
+    match print_report(alloc, report, out) {
+        Ok(()) => Ok(Status::Success),
+        Err(CapsFault::Write) => Err(AnswerFault::Write),
+        Err(CapsFault::Memory) => Err(AnswerFault::Memory),
+    }
+}
+
 /// Does what is due for an outcome: a line is written on `err`, or that the program is accepted or the lives
-/// of its variables or the layout of its file on `out`, or the program is run or compiled.
+/// of its variables or the layout of its file or the report on its capabilities on `out`, or the program is run
+/// or compiled.
 pub fn answer<I: Source, O: Sink, E: Sink>(
     alloc: Global,
     asked: &Asked,
@@ -119,6 +142,7 @@ pub fn answer<I: Source, O: Sink, E: Sink>(
             put_all(out, text.as_bytes())?;
             Ok(Status::Success)
         }
+        Outcome::Reported(report) => put_report(alloc, report, out),
         Outcome::Runs(program) => run(alloc, asked, program, input, out, err),
         Outcome::Compiles(program) => compile(alloc, asked, program, out, err),
     }

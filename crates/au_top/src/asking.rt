@@ -14,6 +14,7 @@ pub fn asked_of(job: &Job) -> Aim
     match job.command {
         Command::Check => Aim::Check,
         Command::Format => Aim::Format,
+        Command::Caps => Aim::Caps,
         Command::Explain => Aim::Explain,
         Command::Compile => Aim::Compile,
         Command::Run => Aim::Run,

@@ -18,7 +18,7 @@ use Rattle.au_base.proofs.BoolLemmas.{cond_cases}
 use Rattle.au_words.specs.Jobs.{Said, Task, task_of, task_said, command_word, AreSaid, IsJob, IsNoJob}
 use Rattle.au_words.specs.Reading.{GivesTask, IsFound, command_at, said_at, said_for}
 use Rattle.au_words.specs.declared.jobs.Command.{Command}
-use Rattle.au_words.specs.declared.jobs.Command.TheVariants.{Run, Compile, Explain, Check, Format}
+use Rattle.au_words.specs.declared.jobs.Command.TheVariants.{Run, Compile, Explain, Check, Format, Caps}
 use Rattle.au_words.specs.declared.jobs.Job.{Job}
 use Rattle.au_words.specs.declared.jobs.WordsFault.{WordsFault}
 use Rattle.au_words.specs.declared.jobs.WordsFault.TheVariants.{NoJob, Memory}
@@ -63,7 +63,11 @@ command_found word command h =
             | inr t ↦ elim (cond_cases (bytes_eq word (codes "format")) _ _ (Some command) t.1) [
               | inl s ↦ let same : Format ≡ command = (let e = s.1 in cc)
                   in subst Found same ((bytes_eq-Decides word (codes "format")).0 s.0)
-              | inr s ↦ absurd (let e = s.1 in cc)
+              | inr s ↦ elim (cond_cases (bytes_eq word (codes "caps")) _ _ (Some command) s.1) [
+                | inl r ↦ let same : Caps ≡ command = (let e = r.1 in cc)
+                    in subst Found same ((bytes_eq-Decides word (codes "caps")).0 r.0)
+                | inr r ↦ absurd (let e = r.1 in cc)
+              ]
             ]
           ]
         ]
@@ -77,6 +81,7 @@ command_again Compile = refl
 command_again Explain = refl
 command_again Check = refl
 command_again Format = refl
+command_again Caps = refl
 
 same_command : (command other : Command) → command_word command ≡ command_word other → command ≡ other
 same_command command other h =

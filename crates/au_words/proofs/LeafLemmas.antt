@@ -17,7 +17,7 @@ use Rattle.clap.specs.declared.builder.value_parser.Reading.TheVariants as readi
 use Rattle.clap.specs.declared.parser.matches.ValueSource.TheVariants.{DefaultValue}
 use Rattle.au_words.specs.Given.{AreGiven, Given, Shows, Use, WritesAll, takes}
 use Rattle.au_words.specs.declared.jobs.Command.{Command}
-use Rattle.au_words.specs.declared.jobs.Command.TheVariants.{Run, Compile, Explain, Check, Format}
+use Rattle.au_words.specs.declared.jobs.Command.TheVariants.{Run, Compile, Explain, Check, Format, Caps}
 use Rattle.au_words.proofs.Leaves.{leaf, leaf_fault, leaf_rows, rules}
 use Rattle.au_words.proofs.RowLemmas.{Views, entry_rule, has_row_is, life_row, life_rule, other_stays}
 use Rattle.au_words.proofs.RowLemmas.{part_row, part_rule, row_added, row_at, steps_rule, value_row}
@@ -76,6 +76,7 @@ defaults_pass Compile rows =
 defaults_pass Explain rows = both_pass (default_fault rows part_rule) [] (no_default rows part_rule refl).0 refl
 defaults_pass Check rows = both_pass (default_fault rows part_rule) [] (no_default rows part_rule refl).0 refl
 defaults_pass Format rows = both_pass (default_fault rows part_rule) [] (no_default rows part_rule refl).0 refl
+defaults_pass Caps rows = both_pass (default_fault rows part_rule) [] (no_default rows part_rule refl).0 refl
 
 -- only `--life` has a default
 last_are : (command : Command) (rows : List Row) → (last_rows command rows ≡ rows)
@@ -93,6 +94,7 @@ last_are Compile rows = inl (
 last_are Explain rows = inl (no_default rows part_rule refl).1
 last_are Check rows = inl (no_default rows part_rule refl).1
 last_are Format rows = inl (no_default rows part_rule refl).1
+last_are Caps rows = inl (no_default rows part_rule refl).1
 
 -- ---- what is found
 
@@ -187,6 +189,7 @@ checks_pass Compile rows h = rw h refl
 checks_pass Explain rows h = rw h refl
 checks_pass Check rows h = rw h refl
 checks_pass Format rows h = rw h refl
+checks_pass Caps rows h = rw h refl
 
 checks_fail : (command : Command) (rows : List Row) → is_given (codes "part") rows ≡ false →
     check_fault (leaf command) rows false ≡ [] → ⊥
@@ -195,6 +198,7 @@ checks_fail Compile rows h passes = let bad = rw h at passes in cc
 checks_fail Explain rows h passes = let bad = rw h at passes in cc
 checks_fail Check rows h passes = let bad = rw h at passes in cc
 checks_fail Format rows h passes = let bad = rw h at passes in cc
+checks_fail Caps rows h passes = let bad = rw h at passes in cc
 
 some_part : (words : List Text) → words ≢ [] → is_some (part_row words) ≡ true
 some_part [] some = absurd (some refl)

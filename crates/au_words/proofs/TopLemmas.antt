@@ -22,7 +22,7 @@ use Rattle.au_words.specs.Given.{program, program_top}
 use Rattle.au_base.proofs.BoolLemmas.{cond_cases}
 use Rattle.au_words.specs.Jobs.{command_word}
 use Rattle.au_words.specs.declared.jobs.Command.{Command}
-use Rattle.au_words.specs.declared.jobs.Command.TheVariants.{Run, Compile, Explain, Check, Format}
+use Rattle.au_words.specs.declared.jobs.Command.TheVariants.{Run, Compile, Explain, Check, Format, Caps}
 use Rattle.au_words.proofs.Leaves.{leaf, leaf_fault, leaf_rows}
 use Rattle.au_words.proofs.TurnLemmas.{next_passes, first_passes as first_none}
 
@@ -33,7 +33,7 @@ top = record program_top { is_built = true }
 -- the names of the commands
 abbrev names : Names
 names =
-    (codes "run", []) ∷ (codes "compile", []) ∷ (codes "explain", []) ∷ (codes "check", []) ∷ (codes "format", []) ∷ []
+    (codes "run", []) ∷ (codes "compile", []) ∷ (codes "explain", []) ∷ (codes "check", []) ∷ (codes "format", []) ∷ (codes "caps", []) ∷ []
 
 -- the library gives what it finds in words of this command line
 pub program_simple : is_simple program ≡ true
@@ -44,7 +44,7 @@ pub program_free : is_simple_and_free program ≡ true
 program_free = refl
 
 -- the commands, as the library builds them
-pub built_subs : (built program).subs ≡ map leaf (Run ∷ Compile ∷ Explain ∷ Check ∷ Format ∷ [])
+pub built_subs : (built program).subs ≡ map leaf (Run ∷ Compile ∷ Explain ∷ Check ∷ Format ∷ Caps ∷ [])
 built_subs = refl
 
 -- ---- kinds
@@ -97,6 +97,7 @@ end_met Compile rest = with_none (leaf_fault Compile rest)
 end_met Explain rest = with_none (leaf_fault Explain rest)
 end_met Check rest = with_none (leaf_fault Check rest)
 end_met Format rest = with_none (leaf_fault Format rest)
+end_met Caps rest = with_none (leaf_fault Caps rest)
 
 -- ---- words that begin with a command
 
@@ -108,6 +109,7 @@ first_met Compile = refl
 first_met Explain = refl
 first_met Check = refl
 first_met Format = refl
+first_met Caps = refl
 
 -- the command itself is no error
 first_passes : (command : Command) → turn_fault top names start (command_word command) ≡ []
@@ -116,6 +118,7 @@ first_passes Compile = refl
 first_passes Explain = refl
 first_passes Check = refl
 first_passes Format = refl
+first_passes Caps = refl
 
 -- the words behind the command are left to it
 walk_met : (command : Command) (rest : List (List ℕ)) →
@@ -151,6 +154,7 @@ rows_met Compile rest = refl
 rows_met Explain rest = refl
 rows_met Check rest = refl
 rows_met Format rest = refl
+rows_met Caps rest = refl
 
 -- what the library finds behind the command
 pub top_rows : (command : Command) (rest : List (List ℕ)) →
@@ -177,7 +181,7 @@ among (command ∷ commands) word =
 -- which command a word is, if it is one
 commanded : (word : List ℕ) → ((command : Command) × (word ≡ command_word command))
     ⊎ (subcommand_met names idle word ≡ None)
-commanded word = elim (among (Run ∷ Compile ∷ Explain ∷ Check ∷ Format ∷ []) word) [
+commanded word = elim (among (Run ∷ Compile ∷ Explain ∷ Check ∷ Format ∷ Caps ∷ []) word) [
   | inl w ↦ inl w
   | inr none ↦ inr (ap (option_map (λ s. s.0)) none)
 ]

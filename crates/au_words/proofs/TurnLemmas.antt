@@ -14,7 +14,7 @@ use Rattle.clap.specs.Walk.{most_values, settled, takes_values, to_positional, u
 use Rattle.au_base.proofs.BoolLemmas.{cond_cases, first_holds}
 use Rattle.au_words.specs.Jobs.{is_run, takes_entry}
 use Rattle.au_words.specs.declared.jobs.Command.{Command}
-use Rattle.au_words.specs.declared.jobs.Command.TheVariants.{Run, Compile, Explain, Check, Format}
+use Rattle.au_words.specs.declared.jobs.Command.TheVariants.{Run, Compile, Explain, Check, Format, Caps}
 use Rattle.au_words.proofs.Leaves.{leaf, rules}
 use Rattle.au_words.proofs.LookLemmas.{IsPlainWord, mark_word}
 use Rattle.au_words.proofs.RowLemmas.{part_rule, entry_rule, steps_rule, life_rule}
@@ -27,6 +27,7 @@ part_by_index Compile = refl
 part_by_index Explain = refl
 part_by_index Check = refl
 part_by_index Format = refl
+part_by_index Caps = refl
 
 pub part_by_id : (command : Command) → arg_by_id (rules command) (codes "part") ≡ Some part_rule
 part_by_id Run = refl
@@ -34,6 +35,7 @@ part_by_id Compile = refl
 part_by_id Explain = refl
 part_by_id Check = refl
 part_by_id Format = refl
+part_by_id Caps = refl
 
 pub no_short : (command : Command) (flag : ℕ) → arg_by_short (rules command) flag ≡ None
 no_short Run flag = refl
@@ -41,6 +43,7 @@ no_short Compile flag = refl
 no_short Explain flag = refl
 no_short Check flag = refl
 no_short Format flag = refl
+no_short Caps flag = refl
 
 -- an option that a command takes, by its name
 pub record IsOption (command : Command) (id : Text) (rule : Rule) : Type 0 where
@@ -53,6 +56,7 @@ entry_option Compile h = record { by_long = refl; by_id = refl }
 entry_option Explain h = cc
 entry_option Check h = cc
 entry_option Format h = cc
+entry_option Caps h = cc
 
 pub steps_option : (command : Command) → is_run command ≡ true → IsOption command (codes "steps") steps_rule
 steps_option Run h = record { by_long = refl; by_id = refl }
@@ -60,6 +64,7 @@ steps_option Compile h = cc
 steps_option Explain h = cc
 steps_option Check h = cc
 steps_option Format h = cc
+steps_option Caps h = cc
 
 pub life_option : (command : Command) → is_run command ≡ true → IsOption command (codes "life") life_rule
 life_option Run h = record { by_long = refl; by_id = refl }
@@ -67,6 +72,7 @@ life_option Compile h = cc
 life_option Explain h = cc
 life_option Check h = cc
 life_option Format h = cc
+life_option Caps h = cc
 
 -- The name is that of an option that the command takes.
 abbrev pub Names : Command → Text → Type 0
@@ -98,6 +104,7 @@ long_found Compile name rule h =
 long_found Explain name rule h = cc
 long_found Check name rule h = cc
 long_found Format name rule h = cc
+long_found Caps name rule h = cc
 
 -- ---- one word
 

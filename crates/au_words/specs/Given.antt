@@ -11,7 +11,7 @@ use Rattle.clap.specs.Walk.{Row, Rule, first_of, all_of, one_of}
 use Rattle.clap.specs.declared.builder.action.ArgAction.TheVariants.{Append, Set, SetTrue}
 use Rattle.au_words.specs.Jobs.{command_word, is_marked, is_run, takes_entry, given}
 use Rattle.au_words.specs.declared.jobs.Command.{Command}
-use Rattle.au_words.specs.declared.jobs.Command.TheVariants.{Run, Compile, Explain, Check, Format}
+use Rattle.au_words.specs.declared.jobs.Command.TheVariants.{Run, Compile, Explain, Check, Format, Caps}
 
 -- What words behind the command are, by their texts: a part, the value of `--entry` or of `--steps`,
 -- the option `--life`, or the mark `--`.
@@ -147,6 +147,7 @@ arguments Compile = part_argument ∷ entry_argument ∷ []
 arguments Explain = part_argument ∷ []
 arguments Check = part_argument ∷ []
 arguments Format = part_argument ∷ []
+arguments Caps = part_argument ∷ []
 
 -- a command
 abbrev pub subcommand : Command → Shape
@@ -164,7 +165,7 @@ program_top = record (new_shape (codes "austral")) {
 
 -- the command line
 abbrev pub program : App
-program = record { top = program_top; subs = map subcommand (Run ∷ Compile ∷ Explain ∷ Check ∷ Format ∷ []) }
+program = record { top = program_top; subs = map subcommand (Run ∷ Compile ∷ Explain ∷ Check ∷ Format ∷ Caps ∷ []) }
 
 -- What the library found in words is what they give.
 pub record Shows (rows : List Row) (what : Given) : Type 0 where

@@ -1,7 +1,7 @@
 -- The jobs of a command line, and how words spell them.
 --
 -- Words are the command line without the program's name. The first word is the command: `run`,
--- `compile`, `explain`, `check` or `format`. Behind it stand parts and options in any order: at least one
+-- `compile`, `explain`, `check`, `format` or `caps`. Behind it stand parts and options in any order: at least one
 -- part, and each option at most once. `run` takes `--entry=M:f`, `--steps=N` and `--life`, `compile` takes
 -- `--entry=M:f`, and the others take none. No option is abbreviated, and there is no other. `format` takes
 -- one file name and no more.
@@ -26,7 +26,7 @@ use Rattle.au_base.specs.declared.tokens.Keyword.{Keyword}
 use Rattle.au_base.specs.Tokens.{keywords, keyword_spelling}
 use Rattle.au_lexer.specs.Bytes.{is_letter, is_name_byte}
 use Rattle.au_words.specs.declared.jobs.Command.{Command}
-use Rattle.au_words.specs.declared.jobs.Command.TheVariants.{Run, Compile, Explain, Check, Format}
+use Rattle.au_words.specs.declared.jobs.Command.TheVariants.{Run, Compile, Explain, Check, Format, Caps}
 use Rattle.au_base.specs.declared.names.Entry.{Entry}
 use Rattle.au_words.specs.declared.jobs.Job.{Job}
 
@@ -66,6 +66,7 @@ command_word Compile = codes "compile"
 command_word Explain = codes "explain"
 command_word Check = codes "check"
 command_word Format = codes "format"
+command_word Caps = codes "caps"
 
 -- whether a command takes `--entry`
 abbrev pub takes_entry : Command → Bool
@@ -74,6 +75,7 @@ takes_entry Compile = true
 takes_entry Explain = false
 takes_entry Check = false
 takes_entry Format = false
+takes_entry Caps = false
 
 -- whether a command takes `--steps` and `--life`
 abbrev pub is_run : Command → Bool
@@ -82,6 +84,7 @@ is_run Compile = false
 is_run Explain = false
 is_run Check = false
 is_run Format = false
+is_run Caps = false
 
 -- whether a command takes so many files: `format` takes one
 abbrev pub takes_files : Command → ℕ → Bool
@@ -90,6 +93,7 @@ takes_files Compile count = true
 takes_files Explain count = true
 takes_files Check count = true
 takes_files Format count = count == 1
+takes_files Caps count = true
 
 -- whether a byte is another than a sign
 abbrev pub is_other : ℕ → ℕ → Bool

@@ -15,7 +15,7 @@ use Rattle.au_words.specs.Given.{AreGiven, Given, Shows}
 use Rattle.au_words.specs.Jobs.{Said, command_word, task_of, task_said, takes_files}
 use Rattle.au_words.specs.Jobs.{is_other, is_name, most_steps}
 use Rattle.au_words.specs.declared.jobs.Command.{Command}
-use Rattle.au_words.specs.declared.jobs.Command.TheVariants.{Run, Compile, Explain, Check, Format}
+use Rattle.au_words.specs.declared.jobs.Command.TheVariants.{Run, Compile, Explain, Check, Format, Caps}
 use Rattle.au_base.specs.declared.names.Entry.{Entry}
 use Rattle.au_words.specs.declared.jobs.Job.{Job}
 use Rattle.au_words.specs.declared.jobs.WordsFault.{WordsFault}
@@ -119,7 +119,8 @@ command_at word =
     else (if bytes_eq word (codes "explain") then Some Explain
     else (if bytes_eq word (codes "check") then Some Check
     else (if bytes_eq word (codes "format") then Some Format
-    else None))))
+    else (if bytes_eq word (codes "caps") then Some Caps
+    else None)))))
 
 -- What is found in words: the word of a command, and what the words behind it give.
 abbrev pub IsFound : List (List ℕ) → Option (List ℕ × List Row) → Type 0

@@ -18,6 +18,8 @@ pub enum Command {
     Check,
     /// Lay out a file.
     Format,
+    /// Tell what its functions can do with capabilities.
+    Caps,
 }
 
 /// A command, and what it is to work on.

@@ -95,6 +95,14 @@ fn format_command<'a>(alloc: Global) -> Result<clap::Command<'a>, AllocError>
     clap::Command::new(alloc, "format").arg(part_argument(alloc))
 }
 
+/// `caps`.
+fn caps_command<'a>(alloc: Global) -> Result<clap::Command<'a>, AllocError>
+    ensures shape { IfOk result (λ c. shape_of c ≡ given.subcommand command.Caps) }
+    ensures local { IfOk result (λ c. (fields_of c).has_globals ≡ false) }
+{
+    clap::Command::new(alloc, "caps").arg(part_argument(alloc))
+}
+
 /// The commands, their parts and their options. There is no help, and no name of the program.
 pub fn program<'a>(alloc: Global) -> Result<clap::Command<'a>, AllocError>
     ensures { IfOk result (λ c. app_of c ≡ given.program) }
@@ -108,5 +116,6 @@ pub fn program<'a>(alloc: Global) -> Result<clap::Command<'a>, AllocError>
         .subcommand(compile_command(alloc)?)?
         .subcommand(explain_command(alloc)?)?
         .subcommand(check_command(alloc)?)?
-        .subcommand(format_command(alloc)?)
+        .subcommand(format_command(alloc)?)?
+        .subcommand(caps_command(alloc)?)
 }

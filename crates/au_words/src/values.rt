@@ -54,7 +54,7 @@ fn takes_files(command: Command, count: usize) -> bool
 {
     match command {
         Command::Format => count == 1,
-        Command::Run | Command::Compile | Command::Explain | Command::Check => true,
+        Command::Run | Command::Compile | Command::Explain | Command::Check | Command::Caps => true,
     }
 }
 

@@ -30,6 +30,8 @@ fn command(word: &str) -> Option<Command>
         Some(Command::Check)
     } else if word == "format" {
         Some(Command::Format)
+    } else if word == "caps" {
+        Some(Command::Caps)
     } else {
         None
     }

@@ -20,5 +20,7 @@ returns c =
     ∙ ap₂ with_subcommand with_compile c.in_ok-explain_command.ensures.shape in
     let with_check = c.in_ok-subcommand-4.ensures.shape c.in_ok-check_command.ensures.local
     ∙ ap₂ with_subcommand with_explain c.in_ok-check_command.ensures.shape in
-    IfOk-weaker c.subcommand-5.result _ _ (λ r added. added.shape c.in_ok-format_command.ensures.local
-    ∙ ap₂ with_subcommand with_check c.in_ok-format_command.ensures.shape) c.subcommand-5.ensures
+    let with_format = c.in_ok-subcommand-5.ensures.shape c.in_ok-format_command.ensures.local
+    ∙ ap₂ with_subcommand with_check c.in_ok-format_command.ensures.shape in
+    IfOk-weaker c.subcommand-6.result _ _ (λ r added. added.shape c.in_ok-caps_command.ensures.local
+    ∙ ap₂ with_subcommand with_format c.in_ok-caps_command.ensures.shape) c.subcommand-6.ensures

@@ -1,0 +1,9 @@
+pub mod KeyLemmas
+pub mod GrowLemmas
+pub mod WebLemmas
+pub mod RowLemmas
+pub mod PairLemmas
+pub mod PlaceLemmas
+pub mod LoopLemmas
+pub mod SetLemmas
+pub mod ReportLemmas

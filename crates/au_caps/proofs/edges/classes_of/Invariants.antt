@@ -1,0 +1,11 @@
+use Rattle.std.proofs.Common.{◌≡◌, map, take}
+use Rattle.au_sights.specs.contracts.noted.NotedPhase.TheImpl.{ghosts as noted}
+use Rattle.au_syntax.specs.Views.{constrained}
+use Rattle.au_types.specs.WrittenViews.{sense_in}
+use Rattle.au_caps.specs.Making.{classes_of}
+use Rattle.au_caps.proofs.edges.classes_of.Given as goal
+
+-- the classes so far
+abbrev pub invariant-loop-one : goal.invariant-loop-one
+invariant-loop-one l = l.made.items
+    ≡ classes_of (sense_in l.scope) (map (constrained noted) (take l.one-index l.one-items))

@@ -1,0 +1,9 @@
+pub mod MentionLemmas
+pub mod TreeLemmas
+pub mod HandLemmas
+pub mod HoldLemmas
+pub mod BodyLemmas
+pub mod LoopLemmas
+pub mod EntryLemmas
+pub mod KnownLemmas
+pub mod ListedLemmas
