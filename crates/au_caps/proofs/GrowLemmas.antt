@@ -14,7 +14,8 @@ use Rattle.au_caps_lists.specs.Bodies.{Bodied, sense_in}
 use Rattle.au_caps.specs.Calls.{Callee, a_birth, a_function, a_method, an_instance, a_class, calls_of}
 use Rattle.au_caps.specs.Keys.{key_of}
 use Rattle.au_caps.specs.Views.{AreOnce, Grows, HoldsArcs, IsWebOf, keys_in}
-use Rattle.au_caps.specs.Webs.{AreEdges, IsNumber, Node, a_body, a_callee, arcs_from, birth_pairs, births_from}
+use Rattle.au_caps.specs.Webs.{AreEdges, IsNumber, Node, a_body, a_callee, arcs_from, birth_pairs}
+use Rattle.au_caps.specs.Webs.{births_from}
 use Rattle.au_caps.specs.Webs.{body_arcs, call_arcs, edges, no_edges, owner_arcs}
 
 -- ---- numbers and edges
@@ -31,7 +32,8 @@ module _ (count more : ℕ) (keys next : List (List ℕ)) (same : more ≡ count
       → AreEdges more next arcs es
   edges_stay arcs es no_edges = no_edges
   edges_stay arcs es (edges a b others from to rest is_a is_b on) =
-      edges a b others from to rest (numbers_stay a from is_a) (numbers_stay b to is_b) (edges_stay others rest on)
+      edges a b others from to rest (numbers_stay a from is_a) (numbers_stay b to is_b)
+      (edges_stay others rest on)
 
 -- one more edge
 module _ (count : ℕ) (keys : List (List ℕ)) (a b : Node) (from to : ℕ) (is_a : IsNumber count keys a from)
@@ -44,7 +46,8 @@ module _ (count : ℕ) (keys : List (List ℕ)) (a b : Node) (from to : ℕ) (is
 
 -- ---- steps
 
-pub number_stays : (arcs : List (Node × Node)) (births : List (ℕ × ℕ)) (old new : Web) → Grows arcs births old new
+pub number_stays : (arcs : List (Node × Node)) (births : List (ℕ × ℕ)) (old new : Web)
+    → Grows arcs births old new
     → (x : Node) (n : ℕ) → IsNumber old.count (keys_in old) x n → IsNumber new.count (keys_in new) x n
 number_stays arcs births old new g x n is =
     numbers_stay old.count new.count (keys_in old) (keys_in new) g.count g.keys x n is
@@ -76,7 +79,8 @@ grows_keys old new counted es bs stay once = record {
 }
 
 -- an edge is added
-pub grows_edge : (old new : Web) (from to : ℕ) (a b : Node) → new.count ≡ old.count → keys_in new ≡ keys_in old
+pub grows_edge : (old new : Web) (from to : ℕ) (a b : Node) → new.count ≡ old.count → keys_in new
+    ≡ keys_in old
     → new.births.items ≡ old.births.items → new.edges.items ≡ old.edges.items ++ (from, to) ∷ []
     → IsNumber old.count (keys_in old) a from → IsNumber old.count (keys_in old) b to
     → Grows ((a, b) ∷ []) [] old new
@@ -87,7 +91,8 @@ grows_edge old new from to a b counted keys bs es is_a is_b = record {
   edges = λ all held.
       subst (λ (l : List (ℕ × ℕ)). AreEdges new.count (keys_in new) (all ++ (a, b) ∷ []) l) (sym es)
       (edges_stay old.count new.count (keys_in old) (keys_in new) counted
-      (λ i key is. subst (λ (ks : List (List ℕ)). slice_get ks i ≡ Some key) (sym keys) is) (all ++ (a, b) ∷ [])
+      (λ i key is. subst (λ (ks : List (List ℕ)). slice_get ks i ≡ Some key) (sym keys) is)
+      (all ++ (a, b) ∷ [])
       (old.edges.items ++ (from, to) ∷ [])
       (edges_push old.count (keys_in old) a b from to is_a is_b all old.edges.items held));
   births = bs ∙ sym (append-nil old.births.items);
@@ -95,7 +100,8 @@ grows_edge old new from to a b counted keys bs es is_a is_b = record {
 
 -- a birth is added
 pub grows_birth : (old new : Web) (p : ℕ × ℕ) → new.count ≡ old.count → keys_in new ≡ keys_in old
-    → new.edges.items ≡ old.edges.items → new.births.items ≡ old.births.items ++ p ∷ [] → Grows [] (p ∷ []) old new
+    → new.edges.items ≡ old.edges.items → new.births.items ≡ old.births.items ++ p ∷ [] → Grows []
+    (p ∷ []) old new
 grows_birth old new p counted keys es bs = record {
   count = counted;
   keys = λ i key is. subst (λ (ks : List (List ℕ)). slice_get ks i ≡ Some key) (sym keys) is;
@@ -104,7 +110,8 @@ grows_birth old new p counted keys es bs = record {
       subst (λ (l : List (Node × Node)). HoldsArcs new l) (sym (append-nil all))
       (subst (λ (l : List (ℕ × ℕ)). AreEdges new.count (keys_in new) all l) (sym es)
       (edges_stay old.count new.count (keys_in old) (keys_in new) counted
-      (λ i key is. subst (λ (ks : List (List ℕ)). slice_get ks i ≡ Some key) (sym keys) is) all old.edges.items held));
+      (λ i key is. subst (λ (ks : List (List ℕ)). slice_get ks i ≡ Some key) (sym keys) is) all
+      old.edges.items held));
   births = bs;
 }
 
@@ -117,14 +124,16 @@ grows_then arcs more bs cs a b c first second = record {
   once = λ is. second.once (first.once is);
   edges = λ all held.
       subst (HoldsArcs c) (append_assoc all arcs more) (second.edges (all ++ arcs) (first.edges all held));
-  births = second.births ∙ ap (λ (l : List (ℕ × ℕ)). l ++ cs) first.births ∙ append_assoc a.births.items bs cs;
+  births = second.births ∙ ap (λ (l : List (ℕ × ℕ)). l ++ cs) first.births
+      ∙ append_assoc a.births.items bs cs;
 }
 
 -- what is added by other names
 pub grows_as : (arcs more : List (Node × Node)) (bs cs : List (ℕ × ℕ)) (a b : Web) → arcs ≡ more → bs ≡ cs
     → Grows arcs bs a b → Grows more cs a b
 grows_as arcs more bs cs a b same born g =
-    subst (λ (l : List (Node × Node)). Grows l cs a b) same (subst (λ (l : List (ℕ × ℕ)). Grows arcs l a b) born g)
+    subst (λ (l : List (Node × Node)). Grows l cs a b) same (subst
+    (λ (l : List (ℕ × ℕ)). Grows arcs l a b) born g)
 
 -- an arc from what has a key
 pub grows_from : (old mid new : Web) (from to : ℕ) (c : Callee) (b : Node) → Grows [] [] old mid
@@ -237,7 +246,8 @@ module _ (program : List ModuleParts) (r : Reaching) where
         once = g.once before.once;
         arcs =
             subst (HoldsArcs new)
-            (ap (λ (n : ℕ). arcs_from program 0 bs ++ body_arcs program n b) at ∙ sym (arcs_push program 0 bs b))
+            (ap (λ (n : ℕ). arcs_from program 0 bs ++ body_arcs program n b) at ∙ sym
+            (arcs_push program 0 bs b))
             (g.edges (arcs_from program 0 bs) before.arcs);
         births =
             g.births

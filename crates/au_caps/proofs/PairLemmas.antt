@@ -1,5 +1,6 @@
 -- Graphs that are made of pairs.
-use Rattle.std.proofs.Common.{◌≡◌, ℕ, ◌+◌, ◌<◌, ◌≤◌, ◌⊎◌, ⊎_elim, List, [], ◌∷◌, ◌++◌, length, get_or, replicate}
+use Rattle.std.proofs.Common.{◌≡◌, ℕ, ◌+◌, ◌<◌, ◌≤◌, ◌⊎◌, ⊎_elim, List, [], ◌∷◌, ◌++◌, length, get_or}
+use Rattle.std.proofs.Common.{replicate}
 use Rattle.std.proofs.Common.{take, sym, ap, ◌∙◌, subst, Contains, arith, length-set}
 use Rattle.std.proofs.lemmas.Bool.{cases_lt}
 use Rattle.std.proofs.lemmas.List.{get_or-replicate, length-replicate, set_past, take_more}
@@ -27,9 +28,11 @@ made_none n graph is = record {
         ⊎_elim
         (λ (low : a < n). subst (λ (xs : List ℕ). Contains xs b) (get_or-replicate n a [] [] low)
         (subst (λ (g : List (List ℕ)). Names g a b) is names))
-        (λ (past : n ≤ a). absurd (past_names graph a b (let size = long in omega arith) names)) (cases_lt a n)
+        (λ (past : n ≤ a). absurd (past_names graph a b (let size = long in omega arith) names))
+        (cases_lt a n)
 
-module _ (nodes : ℕ) (es : List (ℕ × ℕ)) (e : ℕ × ℕ) (graph : List (List ℕ)) (before : IsGraphOf nodes es graph) where
+module _ (nodes : ℕ) (es : List (ℕ × ℕ)) (e : ℕ × ℕ) (graph : List (List ℕ))
+    (before : IsGraphOf nodes es graph) where
   abbrev next : List (List ℕ)
   next = with_edge graph e.0 e.1
 
@@ -45,7 +48,8 @@ module _ (nodes : ℕ) (es : List (ℕ × ℕ)) (e : ℕ × ℕ) (graph : List (
           λ names. ⊎_elim (λ was. old a b ((before.names a b).0 was))
               (λ new. (
                 subst (λ (x : ℕ). x < nodes) (sym new.1) low,
-                subst (λ (p : ℕ × ℕ). Contains (es ++ e ∷ []) p) (λ i. (sym new.1 i, sym new.0 i)) (Contains-push es e),
+                subst (λ (p : ℕ × ℕ). Contains (es ++ e ∷ []) p) (λ i. (sym new.1 i, sym new.0 i))
+                    (Contains-push es e),
               ))
               (edge_only graph e.0 e.1 within a b names),
           λ p. ⊎_elim (λ there. edge_stays graph e.0 e.1 within a b ((before.names a b).1 (p.0, there)))
@@ -60,7 +64,8 @@ module _ (nodes : ℕ) (es : List (ℕ × ℕ)) (e : ℕ × ℕ) (graph : List (
     names = λ a b. (
       λ names. old a b ((before.names a b).0 names),
       λ p. ⊎_elim (λ there. (before.names a b).1 (p.0, there))
-          (λ same. let at : e.0 ≡ a = ap (λ (q : ℕ × ℕ). q.0) same in let low : a < nodes = p.0 in absurd (omega arith))
+          (λ same. let at : e.0 ≡ a = ap (λ (q : ℕ × ℕ). q.0) same in let low : a < nodes = p.0 in absurd
+          (omega arith))
           (Contains-push_cases es e (a, b) p.1),
     );
   }
@@ -69,12 +74,15 @@ module _ (nodes : ℕ) (es : List (ℕ × ℕ)) (e : ℕ × ℕ) (graph : List (
   one_more =
       ⊎_elim below
       (λ high. subst (IsGraphOf nodes (es ++ e ∷ []))
-      (sym (set_past graph e.0 (successors graph e.0 ++ e.1 ∷ []) (let size = before.size in omega arith))) (past high))
+      (sym (set_past graph e.0 (successors graph e.0 ++ e.1 ∷ []) (let size = before.size in omega arith)))
+      (past high))
       (cases_lt e.0 nodes)
 
-pub made_more : (nodes : ℕ) (pairs : List (ℕ × ℕ)) (i : ℕ) (none : ℕ × ℕ) (graph : List (List ℕ)) → i < length pairs
+pub made_more : (nodes : ℕ) (pairs : List (ℕ × ℕ)) (i : ℕ) (none : ℕ × ℕ) (graph : List (List ℕ))
+    → i < length pairs
     → IsGraphOf nodes (take i pairs) graph
     → IsGraphOf nodes (take (i + 1) pairs) (with_edge graph (get_or pairs i none).0 (get_or pairs i none).1)
 made_more nodes pairs i none graph within before =
-    subst (λ (l : List (ℕ × ℕ)). IsGraphOf nodes l (with_edge graph (get_or pairs i none).0 (get_or pairs i none).1))
+    subst (λ (l : List (ℕ × ℕ)). IsGraphOf nodes l (with_edge graph (get_or pairs i none).0
+    (get_or pairs i none).1))
     (sym (take_more pairs i none within)) (one_more nodes (take i pairs) (get_or pairs i none) graph before)

@@ -32,7 +32,8 @@ module _ (program : List ModuleParts) (noted : List NotedParts) where
         hands = same_list (Hands program b) x.hands y.hands p.hands q.hands i;
       }
 
-  one_rows : (bs : List Bodied) (xs ys : List Row) → AreRowsOf program noted bs xs → AreRowsOf program noted bs ys
+  one_rows : (bs : List Bodied) (xs ys : List Row) → AreRowsOf program noted bs xs
+      → AreRowsOf program noted bs ys
       → xs ≡ ys
   one_rows bs xs ys no_rows no_rows = refl
   one_rows bs xs ys (rows b more x others is on) (rows c rest y ones also further) =

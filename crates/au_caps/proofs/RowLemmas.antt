@@ -45,7 +45,8 @@ module _ (program : List ModuleParts) (r : Reaching) where
 
   -- so the list of these is that of what comes to the node
   pub labels_listed : (made : List (List ℕ)) (n : ℕ) (texts : List (List ℕ))
-      → texts ≡ heads_at program r (successors made n) → (list : List (List ℕ)) → IsListOf (Contains texts) list
+      → texts ≡ heads_at program r (successors made n) → (list : List (List ℕ)) → IsListOf
+      (Contains texts) list
       → IsListOf (HasLabel program r made n) list
   labels_listed made n texts are list is =
       listed_by (Contains texts) (HasLabel program r made n) list
@@ -59,7 +60,8 @@ module _ (program : List ModuleParts) (r : Reaching) where
 -- ---- rows
 
 -- one more row
-pub rows_push : (program : List ModuleParts) (noted : List NotedParts) (bs : List Bodied) (rs : List Row) (b : Bodied)
+pub rows_push : (program : List ModuleParts) (noted : List NotedParts) (bs : List Bodied) (rs : List Row)
+    (b : Bodied)
     (row : Row) → AreRowsOf program noted bs rs → IsRowOf program noted b row
     → AreRowsOf program noted (bs ++ b ∷ []) (rs ++ row ∷ [])
 rows_push program noted bs rs b row no_rows is = rows b [] row [] is no_rows

@@ -1,5 +1,6 @@
 -- Keys that are put, each once.
-use Rattle.std.proofs.Common.{◌≡◌, ℕ, ◌<◌, ◌≤◌, ◌⊎◌, ⊎_elim, Bool, true, false, cond, List, [], ◌∷◌, ◌++◌, Option}
+use Rattle.std.proofs.Common.{◌≡◌, ℕ, ◌<◌, ◌≤◌, ◌⊎◌, ⊎_elim, Bool, true, false, cond, List, [], ◌∷◌, ◌++◌}
+use Rattle.std.proofs.Common.{Option}
 use Rattle.std.proofs.Common.{None, Some, Vec, map, refl, sym, ap, ◌∙◌, arith, true≢false}
 use Rattle.std.specs.Global.{Global}
 use Rattle.std.specs.List.{IsDistinct}
@@ -23,10 +24,12 @@ same_key a b = bytes_eq a.items b.items
 
 -- a number that is given stays
 pub keys_stay : (b : Bool) (ks : List (Vec ℕ Global)) (v : Vec ℕ Global) (i : ℕ) (key : List ℕ)
-    → slice_get (map numbers ks) i ≡ Some key → slice_get (map numbers (cond b ks (ks ++ v ∷ []))) i ≡ Some key
+    → slice_get (map numbers ks) i ≡ Some key → slice_get (map numbers (cond b ks (ks ++ v ∷ []))) i
+    ≡ Some key
 keys_stay true ks v i key e = e
 keys_stay false ks v i key e =
-    ap (λ (l : List (List ℕ)). slice_get l i) (map_push numbers ks v) ∙ get_front (map numbers ks) (numbers v ∷ []) i key e
+    ap (λ (l : List (List ℕ)). slice_get l i) (map_push numbers ks v) ∙ get_front (map numbers ks)
+    (numbers v ∷ []) i key e
 
 -- the key that stands at a place
 key_at : (ks : List (Vec ℕ Global)) (i : ℕ) (key : List ℕ) → slice_get (map numbers ks) i ≡ Some key
@@ -60,7 +63,8 @@ module _ (ks : List (Vec ℕ Global)) (distinct : IsDistinct same_key ks) where
 
 -- what is stored has the key
 pub stored_key : (ks : List (Vec ℕ Global)) (i : ℕ) (value : Vec ℕ Global) (key : List ℕ) → value.items ≡ key
-    → (k : Vec ℕ Global) × (slice_get ks i ≡ Some k) × (same_key value k ≡ true) → slice_get (map numbers ks) i ≡ Some key
+    → (k : Vec ℕ Global) × (slice_get ks i ≡ Some k) × (same_key value k ≡ true) → slice_get
+    (map numbers ks) i ≡ Some key
 stored_key ks i value key is (k, there, same) =
     slice_get-map numbers ks i ∙ ap (option_map numbers) there
     ∙ ap (λ (l : List ℕ). Some l) (sym ((bytes_eq-Decides value.items k.items).0 same) ∙ is)

@@ -23,10 +23,13 @@ use Rattle.au_caps_text.specs.Spreading.{AreSpread, LeadsTo}
 use Rattle.au_caps_lists.specs.Bodies.{Bodied, Home, all_bodied, sense_in}
 use Rattle.au_caps.specs.Calls.{Callee, a_birth, a_function, a_method, an_instance, a_class, calls_of}
 use Rattle.au_caps.specs.Keys.{key_of}
-use Rattle.au_caps.specs.Making.{BodyMakes, Makes, StandsFor, born, called, class_named, class_of, constrained}
+use Rattle.au_caps.specs.Making.{BodyMakes, Makes, StandsFor, born, called, class_named, class_of}
+use Rattle.au_caps.specs.Making.{constrained}
 use Rattle.au_caps.specs.Making.{constraints_of}
-use Rattle.au_caps.specs.Making.{constructor_for, constructor_written, the_class, the_function, the_instance, the_method}
-use Rattle.au_caps.specs.Webs.{AreEdges, IsNumber, Node, a_body, a_callee, arcs_at, arcs_from, body_arcs, call_arcs}
+use Rattle.au_caps.specs.Making.{constructor_for, constructor_written, the_class, the_function, the_instance}
+use Rattle.au_caps.specs.Making.{the_method}
+use Rattle.au_caps.specs.Webs.{AreEdges, IsNumber, Node, a_body, a_callee, arcs_at, arcs_from, body_arcs}
+use Rattle.au_caps.specs.Webs.{call_arcs}
 use Rattle.au_caps.specs.Webs.{IsGraphOf, birth_pairs, births_from, edges, instance_arcs}
 use Rattle.au_caps.specs.Webs.{method_arcs, no_edges}
 use Rattle.au_caps.specs.declared.webs.Web.{Web}
@@ -85,11 +88,12 @@ module _ (count : ℕ) (keys : List (List ℕ)) where
       let r = arc_edge others rest on a b later in (r.0, r.1, inr r.2, r.3, r.4)
 
   -- where keys stand once, a node has one number
-  module _ (once : (i j : ℕ) (k : List ℕ) → slice_get keys i ≡ Some k → slice_get keys j ≡ Some k → i ≡ j) where
-    same_number : (a : Node) (n m : ℕ) → IsNumber count keys a n → IsNumber count keys a m → n ≡ m
-    same_number (a_body i) n m p q = p.0 ∙ sym q.0
-    same_number (a_callee c) n m p q =
-        let same : p.0 ≡ q.0 = once p.0 q.0 (key_of c) p.2 q.2 in omega (arith, p.1, q.1, same)
+  module _ (once : (i j : ℕ) (k : List ℕ) → slice_get keys i ≡ Some k → slice_get keys j ≡ Some k → i ≡ j)
+    where
+      same_number : (a : Node) (n m : ℕ) → IsNumber count keys a n → IsNumber count keys a m → n ≡ m
+      same_number (a_body i) n m p q = p.0 ∙ sym q.0
+      same_number (a_callee c) n m p q =
+          let same : p.0 ≡ q.0 = once p.0 q.0 (key_of c) p.2 q.2 in omega (arith, p.1, q.1, same)
 
 -- ---- arcs
 
@@ -105,8 +109,10 @@ module _ (program : List ModuleParts) where
     where
       by : Among x (body_arcs program start b) ⊎ Among x (arcs_from program (start + 1) bs)
           → (Among x (arcs_from program (start + 1) bs)
-          → (i : ℕ) × (c : Bodied) × (slice_get bs i ≡ Some c) × Among x (body_arcs program (start + 1 + i) c))
-          → (i : ℕ) × (c : Bodied) × (slice_get (b ∷ bs) i ≡ Some c) × Among x (body_arcs program (start + i) c)
+          → (i : ℕ) × (c : Bodied) × (slice_get bs i ≡ Some c) × Among x
+          (body_arcs program (start + 1 + i) c))
+          → (i : ℕ) × (c : Bodied) × (slice_get (b ∷ bs) i ≡ Some c) × Among x
+          (body_arcs program (start + i) c)
       by (inl here) rest =
           let same : start ≡ start + 0 = omega arith in
           (0, b, refl, subst (λ n. Among x (body_arcs program n b)) same here)
@@ -116,7 +122,8 @@ module _ (program : List ModuleParts) where
           (suc r.0, r.1, r.2, subst (λ n. Among x (body_arcs program n r.1)) same r.3)
 
   -- and those of a body are arcs
-  arc_of_body : (start : ℕ) (bs : List Bodied) (i : ℕ) (b : Bodied) (x : Node × Node) → slice_get bs i ≡ Some b
+  arc_of_body : (start : ℕ) (bs : List Bodied) (i : ℕ) (b : Bodied) (x : Node × Node) → slice_get bs i
+      ≡ Some b
       → Among x (body_arcs program (start + i) b) → Among x (arcs_from program start bs)
   unfolding arcs_from
   arc_of_body start [] i b x there m = absurd (none-some b there)
@@ -133,7 +140,8 @@ module _ (program : List ModuleParts) where
   -- the class and the constructor of an instance
   class_at : (b : Bodied) (home : Home) → b.home ≡ Some home
       → class_of program b ≡ class_named (sense_in program b) home.class
-  class_at b home some = ap (option_and_then (λ (home : Home). class_named (sense_in program b) home.class)) some
+  class_at b home some = ap (option_and_then (λ (home : Home). class_named (sense_in program b) home.class))
+      some
 
   constructor_at : (b : Bodied) (home : Home) → b.home ≡ Some home
       → constructor_for program b ≡ constructor_written (sense_in program b) home.of
@@ -153,13 +161,16 @@ module _ (program : List ModuleParts) where
     in_method x None none class is m = absurd (none-some class (sym (no_class b none) ∙ is))
     in_method x (Some home) some class is m =
         subst (λ (o : Option Home). Among x (arcs_at program i b o)) (sym some)
-        (subst (λ (o : Option DeclAt). Among x (method_arcs i b o (constructor_written (sense_in program b) home.of)
+        (subst (λ (o : Option DeclAt). Among x (method_arcs i b o
+        (constructor_written (sense_in program b) home.of)
         (constraints_of program b))) (sym is ∙ class_at b home some)
-        (subst (λ (o : Option Constructor). Among x (method_arcs i b (Some class) o (constraints_of program b)))
+        (subst (λ (o : Option Constructor). Among x (method_arcs i b (Some class) o
+        (constraints_of program b)))
         (constructor_at b home some) m))
 
     -- a method that a callee stands for has an arc from it
-    stands_arc : (c : Callee) → StandsFor program c b → Among (a_callee c, a_body i) (arcs_at program i b b.home)
+    stands_arc : (c : Callee) → StandsFor program c b → Among (a_callee c, a_body i)
+        (arcs_at program i b b.home)
     stands_arc c (the_function d none) =
         subst (λ (o : Option Home). Among (a_callee (a_function b.place b.header.name.name), a_body i)
         (arcs_at program i b o)) (sym none) (inl refl)
@@ -183,7 +194,11 @@ module _ (program : List ModuleParts) where
         → Among (a_callee (an_instance class one), a_callee (a_class other)) (arcs_at program i b b.home)
     constraint_arc class other one stands m =
         let is = instance_is class one stands in
-        let arc : DeclAt → Node × Node = λ (d : DeclAt). (a_callee (an_instance class one), a_callee (a_class d)) in
+        let arc : DeclAt → Node × Node = λ (d : DeclAt). (
+          a_callee (an_instance class one),
+          a_callee
+              (a_class d),
+        ) in
         in_method (a_callee (an_instance class one), a_callee (a_class other)) b.home refl class is.0
         (inr (inr (subst (λ (o : Option Constructor). Among
         (a_callee (an_instance class one), a_callee (a_class other))
@@ -225,12 +240,14 @@ module _ (program : List ModuleParts) (r : Reaching) where
   unfolding births_from
   birth_of_body start [] p m = absurd m
   birth_of_body start (b ∷ bs) p m =
-      by (among-append (flat_map (birth_pairs r start) (calls_of program b)) (births_from program r (start + 1) bs) p m)
+      by (among-append (flat_map (birth_pairs r start) (calls_of program b))
+      (births_from program r (start + 1) bs) p m)
       (birth_of_body (start + 1) bs p)
     where
       by : Among p (flat_map (birth_pairs r start) (calls_of program b))
           ⊎ Among p (births_from program r (start + 1) bs)
-          → (Among p (births_from program r (start + 1) bs) → BornBy (start + 1) bs p) → BornBy start (b ∷ bs) p
+          → (Among p (births_from program r (start + 1) bs) → BornBy (start + 1) bs p) → BornBy start
+          (b ∷ bs) p
       by (inl here) rest =
           let call = among-flat_map (birth_pairs r start) (calls_of program b) p here in
           let birth = birth_of_call r start call.0 p call.2 in
@@ -260,24 +277,29 @@ module _ (program : List ModuleParts) (r : Reaching) where
           }
 
   -- and what is born in a body stands there
-  body_birth : (start : ℕ) (bs : List Bodied) (i : ℕ) (b : Bodied) (at : DeclAt) (l : ℕ) → slice_get bs i ≡ Some b
+  body_birth : (start : ℕ) (bs : List Bodied) (i : ℕ) (b : Bodied) (at : DeclAt) (l : ℕ) → slice_get bs i
+      ≡ Some b
       → Among (a_birth at) (calls_of program b) → place_of r at ≡ Some l
       → Among (l, start + i) (births_from program r start bs)
   unfolding births_from
   body_birth start [] i b at l there m is = absurd (none-some b there)
   body_birth start (c ∷ bs) zero b at l there m is =
       let none : start ≡ start + 0 = omega arith in
-      among-append_left (flat_map (birth_pairs r start) (calls_of program c)) (births_from program r (start + 1) bs)
+      among-append_left (flat_map (birth_pairs r start) (calls_of program c))
+      (births_from program r (start + 1) bs)
       (l, start + 0)
       (subst (λ (n : ℕ). Among {A = ℕ × ℕ} (l, n) (flat_map (birth_pairs r start) (calls_of program c))) none
-      (subst (λ (x : Bodied). Among {A = ℕ × ℕ} (l, start) (flat_map (birth_pairs r start) (calls_of program x)))
+      (subst (λ (x : Bodied). Among {A = ℕ × ℕ} (l, start) (flat_map (birth_pairs r start)
+      (calls_of program x)))
       (sym (same_Some c b there))
       (among-flat_map_from (birth_pairs r start) (calls_of program b) (a_birth at) (l, start) m
-      (subst (λ (o : Option ℕ). Among {A = ℕ × ℕ} (l, start) (option_to_list (option_map (λ (k : ℕ). (k, start)) o))) (sym is)
+      (subst (λ (o : Option ℕ). Among {A = ℕ × ℕ} (l, start) (option_to_list
+      (option_map (λ (k : ℕ). (k, start)) o))) (sym is)
       (inl refl)))))
   body_birth start (c ∷ bs) (suc i) b at l there m is =
       let next : start + 1 + i ≡ start + suc i = omega arith in
-      among-append_right (flat_map (birth_pairs r start) (calls_of program c)) (births_from program r (start + 1) bs)
+      among-append_right (flat_map (birth_pairs r start) (calls_of program c))
+      (births_from program r (start + 1) bs)
       (l, start + suc i)
       (subst (λ (n : ℕ). Among {A = ℕ × ℕ} (l, n) (births_from program r (start + 1) bs)) next
       (body_birth (start + 1) bs i b at l there m is))
@@ -305,14 +327,23 @@ module _ (program : List ModuleParts) (noted : List NotedParts) where
     stands_makes : (c : Callee) → StandsFor program c b → NodeMakes (a_body i) h → Makes program noted c h
     stands_makes c stands (other, at, (d, is_called, makes)) =
         let same : other ≡ b = same_Some other b (sym at ∙ there) in
-        called c d b h listed stands (subst (λ (x : Bodied). Contains (calls_of program x) d) same is_called) makes
+        called c d b h listed stands (subst (λ (x : Bodied). Contains (calls_of program x) d) same is_called)
+        makes
 
     -- an arc to what is called
     called_makes : (x y : Node) (c : Callee) → Contains (calls_of program b) c
         → Among {A = Node × Node} (x, y) ((a_body i, a_callee c) ∷ []) → NodeMakes y h → NodeMakes x h
     called_makes x y c is (inl same) makes =
-        subst (λ (n : Node). NodeMakes n h) (ap (λ (p : Node × Node). p.0) same)
-        (b, there, (c, is, subst (λ (n : Node). NodeMakes n h) (sym (ap (λ (p : Node × Node). p.1) same)) makes))
+        subst (λ (n : Node). NodeMakes n h) (ap (λ (p : Node × Node). p.0) same) (
+          b,
+          there,
+          (
+            c,
+            is,
+            subst (λ (n : Node). NodeMakes n h)
+                (sym (ap (λ (p : Node × Node). p.1) same)) makes,
+          ),
+        )
     called_makes x y c is (inr none) makes = absurd none
 
     -- a call
@@ -325,21 +356,28 @@ module _ (program : List ModuleParts) (noted : List NotedParts) where
     call_makes x y (a_class class) is m makes = called_makes x y (a_class class) is m makes
 
     -- an arc from what stands for the body
-    from_stands : (x y : Node) (c : Callee) → StandsFor program c b → ◌≡◌ {A = Node × Node} (a_callee c, a_body i) (x, y)
+    from_stands : (x y : Node) (c : Callee) → StandsFor program c b → ◌≡◌ {A = Node × Node}
+        (a_callee c, a_body i) (x, y)
         → NodeMakes y h → NodeMakes x h
     from_stands x y c stands same makes =
         subst (λ (n : Node). NodeMakes n h) (ap (λ (p : Node × Node). p.0) same)
         (stands_makes c stands (subst (λ (n : Node). NodeMakes n h)
         (sym (ap (λ (p : Node × Node). p.1) same)) makes))
 
-    instance_makes : (x y : Node) (class : DeclAt) → class_of program b ≡ Some class → (one : Option Constructor)
-        → constructor_for program b ≡ one → Among (x, y) (instance_arcs i class one (constraints_of program b))
+    instance_makes : (x y : Node) (class : DeclAt) → class_of program b ≡ Some class →
+        (one : Option Constructor)
+        → constructor_for program b ≡ one → Among (x, y) (instance_arcs i class one
+        (constraints_of program b))
         → NodeMakes y h → NodeMakes x h
     instance_makes x y class is None none absent makes = absurd absent
     instance_makes x y class is (Some one) of (inl same) makes =
         from_stands x y (an_instance class one) (the_instance b class one is of) same makes
     instance_makes x y class is (Some one) of (inr m) makes =
-        let arc : DeclAt → Node × Node = λ (d : DeclAt). (a_callee (an_instance class one), a_callee (a_class d)) in
+        let arc : DeclAt → Node × Node = λ (d : DeclAt). (
+          a_callee (an_instance class one),
+          a_callee
+              (a_class d),
+        ) in
         let found = among-map arc
         (constraints_of program b) (x, y) m in
         subst (λ (n : Node). NodeMakes n h) (ap (λ (p : Node × Node). p.0) found.2)
@@ -348,7 +386,8 @@ module _ (program : List ModuleParts) (noted : List NotedParts) where
         (subst (λ (n : Node). NodeMakes n h) (sym (ap (λ (p : Node × Node). p.1) found.2)) makes))
 
     method_makes : (x y : Node) (class : Option DeclAt) → class_of program b ≡ class
-        → Among (x, y) (method_arcs i b class (constructor_for program b) (constraints_of program b)) → NodeMakes y h → NodeMakes x h
+        → Among (x, y) (method_arcs i b class (constructor_for program b) (constraints_of program b))
+        → NodeMakes y h → NodeMakes x h
     method_makes x y None none absent makes = absurd absent
     method_makes x y (Some class) is (inl same) makes =
         from_stands x y (a_method class b.header.name.name) (the_method b class is) same makes
@@ -383,7 +422,8 @@ module _ (program : List ModuleParts) (noted : List NotedParts) where
             call_makes x y found.0 (contains (calls_of program b) found.0 found.1) found.2 makes
 
   -- what an arc leads to, what leads there may make too
-  arc_makes : (h : Bytes) (x y : Node) → Among (x, y) (arcs_from program 0 bodies) → NodeMakes y h → NodeMakes x h
+  arc_makes : (h : Bytes) (x y : Node) → Among (x, y) (arcs_from program 0 bodies) → NodeMakes y h
+      → NodeMakes x h
   arc_makes h x y m makes =
       let found = body_of_arc program 0 bodies (x, y) m in
       let same : 0 + found.0 ≡ found.0 = zero-add found.0 in
@@ -396,7 +436,8 @@ module _ (program : List ModuleParts) (noted : List NotedParts) where
       (es births : List (ℕ × ℕ)) (numbered : AreEdges (length bodies) keys (arcs_from program 0 bodies) es)
       (of_bodies : births ≡ births_from program r 0 bodies) (graph labels made : List (List ℕ))
       (of_edges : IsGraphOf (length bodies + length keys) es graph)
-      (of_births : IsGraphOf (length r.heads.items) births labels) (spread : AreSpread graph labels made) where
+      (of_births : IsGraphOf (length r.heads.items) births labels)
+      (spread : AreSpread graph labels made) where
     abbrev count : ℕ
     count = length bodies
 
@@ -424,11 +465,14 @@ module _ (program : List ModuleParts) (noted : List NotedParts) where
 
     -- a head comes from a body in which it is born
     born_in : (l s : ℕ) → Names labels l s
-        → (at : DeclAt) × (b : Bodied) × (slice_get bodies s ≡ Some b) × Contains (calls_of program b) (a_birth at)
+        → (at : DeclAt) × (b : Bodied) × (slice_get bodies s ≡ Some b) × Contains (calls_of program b)
+        (a_birth at)
         × ((one : Naming) × (slice_get r.heads.items l ≡ Some one) × (one.of ≡ at))
     born_in l s names =
-        let pair = subst (λ (ps : List (ℕ × ℕ)). Contains ps (l, s)) of_bodies ((of_births.names l s).0 names).1 in
-        let birth = birth_of_body program r 0 bodies (l, s) (among (births_from program r 0 bodies) (l, s) pair) in
+        let pair = subst (λ (ps : List (ℕ × ℕ)). Contains ps (l, s)) of_bodies
+        ((of_births.names l s).0 names).1 in
+        let birth = birth_of_body program r 0 bodies (l, s) (among (births_from program r 0 bodies)
+        (l, s) pair) in
         let same : birth.i ≡ s = sym (zero-add birth.i) ∙ ap (λ (p : ℕ × ℕ). p.1) birth.pair in (
           birth.at,
           birth.b,
@@ -445,7 +489,8 @@ module _ (program : List ModuleParts) (noted : List NotedParts) where
         let found = reaching.found at h e in
         let one = reaching.placed at found.0 found.1 in
         let low = slice_get_within r.heads.items found.0 one.0 one.1 in
-        let birth = body_birth program r 0 bodies s b at found.0 there (among (calls_of program b) (a_birth at) is)
+        let birth = body_birth program r 0 bodies s b at found.0 there
+        (among (calls_of program b) (a_birth at) is)
         found.1 in
         let pair : Contains births (found.0, s) =
         subst (λ (ps : List (ℕ × ℕ)). Contains ps (found.0, s)) (sym of_bodies)
@@ -459,14 +504,16 @@ module _ (program : List ModuleParts) (noted : List NotedParts) where
     -- ---- ways
 
     -- along an edge
-    edge_makes : (h : Bytes) (a b : ℕ) → Names graph a b → (y : Node) → IsNumber count keys y b → NodeMakes y h
+    edge_makes : (h : Bytes) (a b : ℕ) → Names graph a b → (y : Node) → IsNumber count keys y b
+        → NodeMakes y h
         → (x : Node) × IsNumber count keys x a × NodeMakes x h
     edge_makes h a b edge y is_y makes =
         let arc = edge_arc count keys (arcs_from program 0 bodies) es numbered a b (edge_named a b edge) in
         let same : y ≡ arc.1 = same_node count keys y arc.1 b is_y arc.4 in
         (arc.0, arc.3, arc_makes h arc.0 arc.1 arc.2 (subst (λ (n : Node). NodeMakes n h) same makes))
 
-    path_makes : (h : Bytes) (a s : ℕ) → Leads graph a s → (y : Node) → IsNumber count keys y s → NodeMakes y h
+    path_makes : (h : Bytes) (a s : ℕ) → Leads graph a s → (y : Node) → IsNumber count keys y s
+        → NodeMakes y h
         → (x : Node) × IsNumber count keys x a × NodeMakes x h
     path_makes h a s (directly x z edge) y is_y makes = edge_makes h x z edge y is_y makes
     path_makes h a s (onward x b z edge rest) y is_y makes =
@@ -530,7 +577,8 @@ module _ (program : List ModuleParts) (noted : List NotedParts) where
 
     -- the arc of a call
     call_arc : (i : ℕ) (d : Callee) → IsCalled d → Among (a_body i, a_callee d) (call_arcs i d)
-    call_arc i d is = subst (λ (l : List (Node × Node)). Among (a_body i, a_callee d) l) (called_arc i d is) (inl refl)
+    call_arc i d is = subst (λ (l : List (Node × Node)). Among (a_body i, a_callee d) l) (called_arc i d is)
+        (inl refl)
 
     -- a body leads where a callee does that is no birth
     by_call : (i : ℕ) (b : Bodied) → slice_get bodies i ≡ Some b → (d : Callee) (h : Bytes)
@@ -551,9 +599,12 @@ module _ (program : List ModuleParts) (noted : List NotedParts) where
     body_step i b there (a_birth at) h is makes next =
         let place = born_to at h b i there is (birth_head at h makes) in
         (place.0, place.1, (i, body_below i b there, place.2, inl refl))
-    body_step i b there (a_function place name) h is makes next = by_call i b there (a_function place name) h is tt next
-    body_step i b there (a_method class name) h is makes next = by_call i b there (a_method class name) h is tt next
-    body_step i b there (an_instance class one) h is makes next = by_call i b there (an_instance class one) h is tt next
+    body_step i b there (a_function place name) h is makes next = by_call i b there
+        (a_function place name) h is tt next
+    body_step i b there (a_method class name) h is makes next = by_call i b there
+        (a_method class name) h is tt next
+    body_step i b there (an_instance class one) h is makes next = by_call i b there
+        (an_instance class one) h is tt next
     body_step i b there (a_class class) h is makes next = by_call i b there (a_class class) h is tt next
 
     -- a callee that may make leads there
@@ -593,23 +644,34 @@ module _ (program : List ModuleParts) (noted : List NotedParts) where
 
         from : BodyMakes program noted b h → (l : ℕ) × IsHeadAt program r l h × Names made i l
         from makes =
-            let found = from_makes i b h there makes in (found.0, found.1, (spread i found.0 within).1 found.2)
+            let found = from_makes i b h there makes in (
+              found.0,
+              found.1,
+              (spread i found.0 within).1 found.2,
+            )
 
 -- so the labels that the code holds are these
-pub all_labelled : (program : List ModuleParts) (noted : List NotedParts) (bs : List Bodied) → bs ≡ all_bodied noted
+pub all_labelled : (program : List ModuleParts) (noted : List NotedParts) (bs : List Bodied) → bs
+    ≡ all_bodied noted
     → (r : Reaching) → IsReaching program r → (w : Web) (count : ℕ) → IsWebOf program r count bs w
     → count ≡ length bs → (graph labels made : List (List ℕ))
-    → IsGraphOf (w.count + length (keys_in w)) w.edges.items graph → (heads : ℕ) → heads ≡ length r.heads.items
-    → IsGraphOf heads w.births.items labels → AreSpread graph labels made → AreLabelled program noted r bs made
-all_labelled program noted bs same r reaching w count web long graph labels made of_edges heads many of_births spread =
+    → IsGraphOf (w.count + length (keys_in w)) w.edges.items graph → (heads : ℕ) → heads
+    ≡ length r.heads.items
+    → IsGraphOf heads w.births.items labels → AreSpread graph labels made
+    → AreLabelled program noted r bs made
+all_labelled program noted bs same r reaching w count web long graph labels made of_edges heads many
+    of_births spread =
     let all = all_bodied noted in
     let counted : w.count ≡ length all = web.count ∙ long ∙ ap (λ (l : List Bodied). length l) same in
     let numbered : AreEdges (length all) (keys_in w) (arcs_from program 0 all) w.edges.items =
     subst (λ (n : ℕ). AreEdges n (keys_in w) (arcs_from program 0 all) w.edges.items) counted
-    (subst (λ (l : List Bodied). AreEdges w.count (keys_in w) (arcs_from program 0 l) w.edges.items) same web.arcs) in
+    (subst (λ (l : List Bodied). AreEdges w.count (keys_in w) (arcs_from program 0 l) w.edges.items) same
+    web.arcs) in
     let births = web.births ∙ ap (λ (l : List Bodied). births_from program r 0 l) same in
-    let edges_are = subst (λ (n : ℕ). IsGraphOf (n + length (keys_in w)) w.edges.items graph) counted of_edges in
+    let edges_are = subst (λ (n : ℕ). IsGraphOf (n + length (keys_in w)) w.edges.items graph) counted
+    of_edges in
     let births_are = subst (λ (n : ℕ). IsGraphOf n w.births.items labels) many of_births in
     subst (λ (l : List Bodied). AreLabelled program noted r l made) (sym same)
-    (λ i b there h. labels_are program noted r reaching (keys_in w) web.once w.edges.items w.births.items numbered births
+    (λ i b there h. labels_are program noted r reaching (keys_in w) web.once w.edges.items w.births.items
+    numbered births
     graph labels made edges_are births_are spread i b there h)

@@ -81,7 +81,8 @@ module _ (program : List ModuleParts) where
   -- a function of a name, by where it is declared
   abbrev pub header_leads : Note → Target → Header Bytes → List Callee
   header_leads note target h =
-      function_leads (gives_birth (prim_of (module_name program target.at.«module») h.name.name None)) note target
+      function_leads (gives_birth (prim_of (module_name program target.at.«module») h.name.name None)) note
+      target
 
   -- what a declaration leads to whose name is called: a record or a union gives birth to a value of the type
   -- of the call's expression

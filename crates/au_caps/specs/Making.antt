@@ -54,7 +54,8 @@ module _ (program : List ModuleParts) where
 
   -- the constructor of the type that this instance is for
   abbrev pub constructor_for : Bodied → Option Constructor
-  constructor_for b = option_and_then (λ (home : Home). constructor_written (sense_in program b) home.of) b.home
+  constructor_for b = option_and_then (λ (home : Home). constructor_written (sense_in program b) home.of)
+      b.home
 
   -- the classes that the constraints of its type parameters name
   abbrev pub constraints_of : Bodied → List DeclAt
@@ -81,7 +82,8 @@ module _ (program : List ModuleParts) (noted : List NotedParts) where
         → Contains (calls_of program b) d → Makes d h → Makes c h
     constrained : (class other : DeclAt) (one : Constructor) (b : Bodied) (h : Bytes)
         → Contains (all_bodied noted) b → StandsFor program (an_instance class one) b
-        → Contains (constraints_of program b) other → Makes (a_class other) h → Makes (an_instance class one) h
+        → Contains (constraints_of program b) other → Makes (a_class other) h → Makes
+        (an_instance class one) h
 
   -- A body may make a capability: a call in its text may.
   abbrev pub BodyMakes : Bodied → Bytes → Type 0

@@ -17,14 +17,16 @@ name_of program b = module_name program b.place ++ 58 ∷ b.header.name.name
 
 -- A row is that of a function or method: its name, and the lists of what it may make, what its variables can
 -- hold, and what it can hand on, each in the order of bytes and each entry once.
-pub record IsRowOf (program : List ModuleParts) (noted : List NotedParts) (b : Bodied) (row : Row) : Type 0 where
+pub record IsRowOf (program : List ModuleParts) (noted : List NotedParts) (b : Bodied)
+    (row : Row) : Type 0 where
   pub name : row.function ≡ name_of program b
   pub makes : IsListOf (BodyMakes program noted b) row.makes
   pub holds : IsListOf (Holds program b) row.holds
   pub hands : IsListOf (Hands program b) row.hands
 
 -- rows are those of functions and methods, each in its place
-pub data AreRowsOf (program : List ModuleParts) (noted : List NotedParts) : List Bodied → List Row → Type 0 where
+pub data AreRowsOf (program : List ModuleParts) (noted : List NotedParts) : List Bodied → List Row
+    → Type 0 where
   no_rows : AreRowsOf program noted [] []
   rows : (b : Bodied) (bs : List Bodied) (row : Row) (more : List Row) → IsRowOf program noted b row
       → AreRowsOf program noted bs more → AreRowsOf program noted (b ∷ bs) (row ∷ more)

@@ -29,7 +29,8 @@ callee_said (code.Class class) = a_class class
 
 -- what a name leads to where this is seen
 abbrev pub leads_seen : Sight → Note → Unit {0} → Bytes → List Callee
-leads_seen sight note c name = target_leads (slots.modules sight.program.now) note (find name sight.names.now.callables)
+leads_seen sight note c name = target_leads (slots.modules sight.program.now) note
+    (find name sight.names.now.callables)
 
 -- what is held of what leads to what: the keys by number
 abbrev pub keys_in : Web → List (List ℕ)
@@ -46,7 +47,8 @@ AreOnce keys = (i j : ℕ) (key : List ℕ) → slice_get keys i ≡ Some key �
 -- What a step adds to what is held: arcs and births. Numbers that were given stay.
 pub record Grows (arcs : List (Node × Node)) (pairs : List (ℕ × ℕ)) (old new : Web) : Type 0 where
   pub count : new.count ≡ old.count
-  pub keys : (i : ℕ) (key : List ℕ) → slice_get (keys_in old) i ≡ Some key → slice_get (keys_in new) i ≡ Some key
+  pub keys : (i : ℕ) (key : List ℕ) → slice_get (keys_in old) i ≡ Some key → slice_get (keys_in new) i
+      ≡ Some key
   pub once : AreOnce (keys_in old) → AreOnce (keys_in new)
   pub edges : (all : List (Node × Node)) → HoldsArcs old all → HoldsArcs new (all ++ arcs)
   pub births : new.births.items ≡ old.births.items ++ pairs

@@ -30,7 +30,8 @@ IsNumber count keys (a_callee c) n = (k : ℕ) × (n ≡ count + k) × (slice_ge
 -- edges are the arcs between nodes, by numbers
 pub data AreEdges (count : ℕ) (keys : List (List ℕ)) : List (Node × Node) → List (ℕ × ℕ) → Type 0 where
   no_edges : AreEdges count keys [] []
-  edges : (a b : Node) (arcs : List (Node × Node)) (from to : ℕ) (rest : List (ℕ × ℕ)) → IsNumber count keys a from
+  edges : (a b : Node) (arcs : List (Node × Node)) (from to : ℕ) (rest : List (ℕ × ℕ))
+      → IsNumber count keys a from
       → IsNumber count keys b to → AreEdges count keys arcs rest
       → AreEdges count keys ((a, b) ∷ arcs) ((from, to) ∷ rest)
 
@@ -56,8 +57,8 @@ instance_arcs i class (Some one) others =
 abbrev pub function_arcs : ℕ → Bodied → List (Node × Node)
 function_arcs i b = (a_callee (a_function b.place b.header.name.name), a_body i) ∷ []
 
--- what stands for a method of an instance of a class leads to it, where the instance has a constructor, if its type
--- has one, and its constraints name other classes
+-- what stands for a method of an instance of a class leads to it, where the instance has a constructor, if its
+-- type has one, and its constraints name other classes
 abbrev pub method_arcs : ℕ → Bodied → Option DeclAt → Option Constructor → List DeclAt → List (Node × Node)
 method_arcs i b None one others = []
 method_arcs i b (Some class) one others =
@@ -69,7 +70,8 @@ method_arcs i b (Some class) one others =
 abbrev pub owner_arcs : (Bytes → Option Sense) → ℕ → Bodied → Option Home → List (Node × Node)
 owner_arcs sense i b None = function_arcs i b
 owner_arcs sense i b (Some home) =
-    method_arcs i b (class_named sense home.class) (constructor_written sense home.of) (classes_of sense b.generics)
+    method_arcs i b (class_named sense home.class) (constructor_written sense home.of)
+    (classes_of sense b.generics)
 
 module _ (program : List ModuleParts) where
   abbrev pub arcs_at : ℕ → Bodied → Option Home → List (Node × Node)

@@ -1,6 +1,6 @@
 //! What the calls in a body lead to.
 
-ghost use Rattle.std.specs.Prelude.{◌≡◌, ◌++◌, None, OnOk, Some, map, option_copied};
+ghost use Rattle.std.specs.Prelude.{◌≡◌, ◌++◌, ◌∷◌, [], None, OnOk, Some, map, option_copied};
 ghost use Rattle.std.specs.Option.{option_and_then, option_map};
 ghost use Rattle.au_caps.specs.Calls as spec;
 ghost use Rattle.au_caps.specs.Views.{callee_said, leads_seen};
@@ -16,12 +16,12 @@ use crate::callees::Callee;
 use au_base::{Memory, Name};
 use au_closed_trees::changes::Finder;
 use au_imports::Resolved;
-use au_instances::constructor_of;
+use au_instances::{Constructor, constructor_of};
 use au_names::{PartNames, Target};
 use au_shipped::{ShippedCall, prim_of};
 use au_sights::Notes;
 use au_syntax::{Decl, Parsed, TypeParameter};
-use au_types::{Arg, Ty};
+use au_types::{Arg, DeclAt, Ty};
 use std::alloc::Global;
 
 /// What is seen of what is called.
@@ -31,6 +31,44 @@ pub(crate) struct Sight<'a> {
     pub program: &'a Resolved,
     /// What names mean in the part.
     pub names: &'a PartNames,
+}
+
+/// Puts that a value of a declared type is born.
+fn add_born(at: DeclAt, found: &mut Vec<Callee>) -> Result<(), Memory>
+    ensures { OnOk result (map callee_said found.new.items ≡ map callee_said found.old.items ++ spec.a_birth
+        at ∷ []) }
+{
+    found.push(Callee::Birth(at))?;
+    Ok(())
+}
+
+/// Puts that the function is called that a name means.
+fn add_called(alloc: Global, target: &Target, found: &mut Vec<Callee>) -> Result<(), Memory>
+    ensures { OnOk result (map callee_said found.new.items
+        ≡ map callee_said found.old.items ++ spec.a_function target.now.at.«module» target.now.name ∷ []) }
+{
+    let name = target.name.copy(alloc)?;
+    found.push(Callee::Function(target.at.module, name))?;
+    Ok(())
+}
+
+/// Puts that the method that a name means is called of all instances.
+fn add_every(alloc: Global, target: &Target, found: &mut Vec<Callee>) -> Result<(), Memory>
+    ensures { OnOk result (map callee_said found.new.items
+        ≡ map callee_said found.old.items ++ spec.a_method target.now.at target.now.name ∷ []) }
+{
+    let name = target.name.copy(alloc)?;
+    found.push(Callee::Method(target.at, name))?;
+    Ok(())
+}
+
+/// Puts that the methods of the instance of a class are called whose head has a constructor.
+fn add_instance(class: DeclAt, one: Constructor, found: &mut Vec<Callee>) -> Result<(), Memory>
+    ensures { OnOk result (map callee_said found.new.items
+        ≡ map callee_said found.old.items ++ spec.an_instance class one ∷ []) }
+{
+    found.push(Callee::Instance(class, one))?;
+    Ok(())
 }
 
 /// Puts the birth of a value of a type, if it is a declared one.
@@ -44,10 +82,7 @@ fn add_birth(of: &Ty, found: &mut Vec<Callee>) -> Result<(), Memory>
         Ty::Int(_) => Ok(()),
         Ty::Text => Ok(()),
         Ty::Param(_) => Ok(()),
-        Ty::Named { of, .. } => {
-            found.push(Callee::Birth(*of))?;
-            Ok(())
-        }
+        Ty::Named { of, .. } => add_born(*of, found),
         Ty::Read { .. } => Ok(()),
         Ty::Write { .. } => Ok(()),
     }
@@ -122,15 +157,14 @@ fn add_function(
 ) -> Result<(), Memory>
     ensures { OnOk result (map callee_said found.new.items
         ≡ map callee_said found.old.items ++ spec.function_leads
-        (spec.gives_birth (prim_of (module_name (slots.modules program.now) target.now.at.«module») name.now None))
+        (spec.gives_birth (prim_of (module_name (slots.modules program.now) target.now.at.«module») name.now
+        None))
         (note_said of.now) target.now) }
 {
     if is_birth(program, target.at.module, name) {
         return add_birth(&of.of, found);
     }
-    let name = target.name.copy(alloc)?;
-    found.push(Callee::Function(target.at.module, name))?;
-    Ok(())
+    add_called(alloc, target, found)
 }
 
 /// What the type parameter of a class stands for at a call, if that is a type.
@@ -147,6 +181,16 @@ fn value_at<'a>(of: &'a Notes, param: &Name) -> Option<&'a Ty>
     }
 }
 
+/// The constructor of the type for which the type parameter of a class stands at a call, if it has one.
+fn constructor_at(of: &Notes, param: &Name) -> Option<Constructor>
+    ensures { result ≡ option_and_then constructor_of (spec.type_at (note_said of.now) param.now) }
+{
+    match value_at(of, param) {
+        None => None,
+        Some(at) => constructor_of(at),
+    }
+}
+
 /// Puts what a call of a method leads to.
 fn add_method(
     alloc: Global,
@@ -159,20 +203,9 @@ fn add_method(
         ≡ map callee_said found.old.items ++ spec.method_leads target.now
         (option_and_then constructor_of (spec.type_at (note_said of.now) param.now.name.name))) }
 {
-    let head = match value_at(of, &param.name.name) {
-        None => None,
-        Some(at) => constructor_of(at),
-    };
-    match head {
-        Some(one) => {
-            found.push(Callee::Instance(target.at, one))?;
-            Ok(())
-        }
-        None => {
-            let name = target.name.copy(alloc)?;
-            found.push(Callee::Method(target.at, name))?;
-            Ok(())
-        }
+    match constructor_at(of, &param.name.name) {
+        None => add_every(alloc, target, found),
+        Some(one) => add_instance(target.at, one, found),
     }
 }
 
@@ -225,6 +258,24 @@ fn add_target(
     }
 }
 
+/// Puts what a call of a name leads to, by what it means, if it means something.
+fn add_found(
+    alloc: Global,
+    program: &Resolved,
+    of: &Notes,
+    target: Option<&Target>,
+    found: &mut Vec<Callee>,
+) -> Result<(), Memory>
+    ensures { OnOk result (map callee_said found.new.items
+        ≡ map callee_said found.old.items ++ spec.target_leads (slots.modules program.now)
+        (note_said of.now) (option_copied target.entry)) }
+{
+    match target {
+        None => Ok(()),
+        Some(target) => add_target(alloc, program, of, target, found),
+    }
+}
+
 impl<'a> Finder for Sight<'a> {
     type Found = Callee;
 
@@ -241,9 +292,7 @@ impl<'a> Finder for Sight<'a> {
         name: &Name,
         found: &mut Vec<Callee>,
     ) -> Result<(), Memory> {
-        match self.names.callables.get(name.as_bytes()) {
-            None => Ok(()),
-            Some(target) => add_target(alloc, self.program, of, target, found),
-        }
+        let target = self.names.callables.get(name.as_bytes());
+        add_found(alloc, self.program, of, target, found)
     }
 }

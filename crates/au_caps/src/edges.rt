@@ -3,7 +3,8 @@
 ghost use Rattle.std.specs.Prelude.{◌≡◌, ◌<◌, ◌++◌, ◌∷◌, [], IfOk, OnOk, Some, length, map, option_to_list};
 ghost use Rattle.std.specs.List.{flat_map};
 ghost use Rattle.au_caps_lists.specs.Bodies.{params_of};
-ghost use Rattle.au_caps.specs.Calls.{Callee as CalleeSeen, a_birth, a_class, a_method, an_instance, calls_of};
+ghost use Rattle.au_caps.specs.Calls.{Callee as CalleeSeen, a_birth, a_class, a_method, an_instance};
+ghost use Rattle.au_caps.specs.Calls.{calls_of};
 ghost use Rattle.au_caps.specs.Keys as keys;
 ghost use Rattle.au_caps.specs.Making as making;
 ghost use Rattle.au_caps_lists.specs.Views.{body_said, home_said};
@@ -60,7 +61,6 @@ fn constructor_named(scope: &Scope, name: &Name) -> Option<Constructor>
 }
 
 /// The constructor of a written type.
-#[tactic(auto, using(au_syntax::proofs::TypeLemmas::type_steps))]
 fn constructor_written(scope: &Scope, of: &TypeText) -> Option<Constructor>
     ensures { result ≡ making.constructor_written (sense_in scope.now) (written of.now) }
 {

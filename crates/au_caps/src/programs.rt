@@ -68,7 +68,8 @@ fn report_of(
 ) -> Result<Report, Memory>
     requires within { AreWithin (slots.modules program.now) (bodies_said bodies.now.items) }
     requires reached { IsReaching (slots.modules program.now) reaching.now }
-    ensures { IfOk result (λ report. (noted : List NotedParts) → bodies_said bodies.now.items ≡ all_bodied noted
+    ensures { IfOk result (λ report. (noted : List NotedParts) → bodies_said bodies.now.items
+        ≡ all_bodied noted
         → IsReportOf (slots.modules program.now) noted report) }
 {
     let made = labels_of(alloc, program, reaching, bodies)?;

@@ -49,7 +49,8 @@ module _ (program : List ModuleParts) (r : Reaching) (all_reached : AreReached p
       found : (m : Mention) × Among m all × Among h (entries_in program r params m)
       found = among-flat_map (entries_in program r params) all h (among (entries program r params all) h c)
 
-      by : (m : Mention) → Contains all m → Among h (entries_in program r params m) → Reaches program params all h
+      by : (m : Mention) → Contains all m → Among h (entries_in program r params m)
+          → Reaches program params all h
       by (declared at) there h_in =
           let one = among_kept (head_at program r) (places r at) h h_in in
           a_head at h there
@@ -68,7 +69,8 @@ module _ (program : List ModuleParts) (r : Reaching) (all_reached : AreReached p
       (head_is program r one.0 h one.2)))
   by_reached all h (a_parameter name there e) =
       contains (entries program r params all) name
-      (among-flat_map_from (entries_in program r params) all (generic name) name (among all (generic name) there)
+      (among-flat_map_from (entries_in program r params) all (generic name) name
+      (among all (generic name) there)
       (among_it (may_stand params name) name e))
 
   -- so the list of the entries is that of what is reached

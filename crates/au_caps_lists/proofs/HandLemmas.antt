@@ -15,17 +15,20 @@ use Rattle.au_syntax.specs.declared.types.Access.{Access}
 use Rattle.au_syntax.specs.declared.types.TypeText.{TypeText}
 use Rattle.au_syntax.specs.Expressions.{no_expressions, expressions, no_arguments, arguments}
 use Rattle.au_syntax.specs.Statements.{no_statements, statements, no_branches, branches, no_arms, arms}
-use Rattle.au_syntax.specs.Views.{argument_all, arm_all, block, branch_all, expression, expression_all, statement}
+use Rattle.au_syntax.specs.Views.{argument_all, arm_all, block, branch_all, expression, expression_all}
+use Rattle.au_syntax.specs.Views.{statement}
 use Rattle.au_syntax.proofs.ExpressionLemmas as exprs
 use Rattle.au_syntax.proofs.StatementLemmas as stmts
 use Rattle.au_typing.specs.Notes.{NotedArguments, NotedExpression, NotedExpressions, type_of}
 use Rattle.au_typing.specs.Trees.{NotedArms, NotedBranches, NotedStatement, NotedStatements}
 use Rattle.au_closed_trees.proofs.SnocLemmas.{snoc_arguments, snoc_arms, snoc_branches, snoc_expressions}
 use Rattle.au_closed_trees.proofs.SnocLemmas.{snoc_statements}
-use Rattle.au_caps_lists.specs.Holding.{handed_by, handed_by_arms, handed_by_block, handed_by_branches, handed_in}
+use Rattle.au_caps_lists.specs.Holding.{handed_by, handed_by_arms, handed_by_block, handed_by_branches}
+use Rattle.au_caps_lists.specs.Holding.{handed_in}
 use Rattle.au_caps_lists.specs.Holding.{handed_in_all, handed_in_arguments, named_mention, types_mention}
 use Rattle.au_caps_lists.specs.Mentions.{mentions}
-use Rattle.au_caps_lists.proofs.TreeLemmas.{CodeArgument, CodeArm, CodeBind, CodeBlock, CodeBox, CodeBranch, CodeExpr}
+use Rattle.au_caps_lists.proofs.TreeLemmas.{CodeArgument, CodeArm, CodeBind, CodeBlock, CodeBox, CodeBranch}
+use Rattle.au_caps_lists.proofs.TreeLemmas.{CodeExpr}
 use Rattle.au_caps_lists.proofs.TreeLemmas.{CodeIdent, CodeNames, CodeSite}
 
 -- ---- one more behind the others
@@ -52,7 +55,8 @@ pub arguments_hand : (es last : NotedArguments)
     → handed_in_arguments (snoc_arguments es last) ≡ handed_in_arguments es ++ handed_in_arguments last
 arguments_hand no_arguments last = refl
 arguments_hand (arguments label one rest) last =
-    added_behind (handed_in one) (handed_in_arguments rest) (handed_in_arguments last) _ (arguments_hand rest last)
+    added_behind (handed_in one) (handed_in_arguments rest) (handed_in_arguments last) _
+    (arguments_hand rest last)
 
 pub statements_hand : (b : NotedStatements) (s : NotedStatement)
     → handed_by_block (snoc_statements b s) ≡ handed_by_block b ++ handed_by s

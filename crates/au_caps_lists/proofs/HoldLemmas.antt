@@ -19,7 +19,8 @@ use Rattle.au_typing.specs.Trees.{NotedArms, NotedBranches, NotedStatement, Note
 use Rattle.au_closed_trees.proofs.SnocLemmas.{snoc_arms, snoc_branches, snoc_statements}
 use Rattle.au_caps_lists.specs.Holding.{held_in, held_in_arms, held_in_block, held_in_branches}
 use Rattle.au_caps_lists.specs.Mentions.{bind_mentions, written_mentions}
-use Rattle.au_caps_lists.proofs.TreeLemmas.{CodeArm, CodeBind, CodeBlock, CodeBox, CodeBranch, CodeIdent, CodeNames}
+use Rattle.au_caps_lists.proofs.TreeLemmas.{CodeArm, CodeBind, CodeBlock, CodeBox, CodeBranch, CodeIdent}
+use Rattle.au_caps_lists.proofs.TreeLemmas.{CodeNames}
 
 module _ (sense : Bytes → Option Sense) where
   pub statements_hold : (b : NotedStatements) (s : NotedStatement)

@@ -9,12 +9,14 @@ use Rattle.au_names.specs.HeadsOf.{heads_of}
 use Rattle.au_typing.specs.Written.{types_at}
 use Rattle.au_caps_text.specs.Lists.{IsListOf}
 use Rattle.au_caps_lists.specs.Bodies.{Bodied, params_of, sense_in}
-use Rattle.au_caps_lists.specs.Holding.{Hands, Holds, handed_by_block, handed_mentions, held_in_block, held_mentions}
+use Rattle.au_caps_lists.specs.Holding.{Hands, Holds, handed_by_block, handed_mentions, held_in_block}
+use Rattle.au_caps_lists.specs.Holding.{held_mentions}
 use Rattle.au_caps_lists.specs.Mentions.{Mention, field_mentions, written_mentions}
 use Rattle.au_caps_lists.specs.Reaching.{Reaches}
 
 -- what a name means in a scope of a body
-pub sense_same : (program : List ModuleParts) (b : Bodied) (params : List Parameter) (sense : Bytes → Option Sense)
+pub sense_same : (program : List ModuleParts) (b : Bodied) (params : List Parameter)
+    (sense : Bytes → Option Sense)
     → params ≡ params_of b → sense ≡ sense_of [] params (types_at program b.place Body) (heads_of program)
     → sense ≡ sense_in program b
 sense_same program b params sense same is =
@@ -27,7 +29,8 @@ module _ (program : List ModuleParts) (b : Bodied) (params : List Parameter) (se
   holds_listed are list is =
       subst (λ (ps : List Parameter). IsListOf (Reaches program ps (held_mentions program b)) list) same
       (subst (λ (ms : List Mention). IsListOf (Reaches program params ms) list)
-      (are ∙ ap (λ (s : Bytes → Option Sense). field_mentions s b.header.parameters ++ held_in_block s b.block) is_sense)
+      (are ∙ ap (λ (s : Bytes → Option Sense). field_mentions s b.header.parameters ++ held_in_block s
+      b.block) is_sense)
       is)
 
   pub hands_listed : all ≡ written_mentions sense b.header.result ++ handed_by_block b.block
@@ -35,5 +38,6 @@ module _ (program : List ModuleParts) (b : Bodied) (params : List Parameter) (se
   hands_listed are list is =
       subst (λ (ps : List Parameter). IsListOf (Reaches program ps (handed_mentions program b)) list) same
       (subst (λ (ms : List Mention). IsListOf (Reaches program params ms) list)
-      (are ∙ ap (λ (s : Bytes → Option Sense). written_mentions s b.header.result ++ handed_by_block b.block) is_sense)
+      (are ∙ ap (λ (s : Bytes → Option Sense). written_mentions s b.header.result ++ handed_by_block b.block)
+      is_sense)
       is)

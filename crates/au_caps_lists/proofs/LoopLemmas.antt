@@ -30,12 +30,15 @@ module _ {A : Type 0} (xs : List A) (i : ℕ) (x : A) (within : i < length xs) (
       ∙ filter_map-append f (map g (take i xs)) (g x ∷ [])
       ∙ ap (λ l. filter_map f (map g (take i xs)) ++ l) (sym (one_listed (f (g x))))
 
-flat_push : {B C : Type 0} (f : B → List C) (ys : List B) (y : B) → flat_map f (ys ++ y ∷ []) ≡ flat_map f ys ++ f y
+flat_push : {B C : Type 0} (f : B → List C) (ys : List B) (y : B) → flat_map f (ys ++ y ∷ [])
+    ≡ flat_map f ys ++ f y
 flat_push f [] y = append-nil (f y)
 flat_push f (x ∷ xs) y =
     ap (λ l. f x ++ l) (flat_push f xs y) ∙ sym (append_assoc (f x) (flat_map f xs) (f y))
 
 -- and the lists of all of them
-pub flat_more : {A B C : Type 0} (xs : List A) (i : ℕ) (x : A) → i < length xs → x ≡ get_or xs i x → (g : A → B)
+pub flat_more : {A B C : Type 0} (xs : List A) (i : ℕ) (x : A) → i < length xs → x ≡ get_or xs i x →
+    (g : A → B)
     (f : B → List C) → flat_map f (map g (take (i + 1) xs)) ≡ flat_map f (map g (take i xs)) ++ f (g x)
-flat_more xs i x within is g f = ap (flat_map f) (mapped_more xs i x within is g) ∙ flat_push f (map g (take i xs)) (g x)
+flat_more xs i x within is g f = ap (flat_map f) (mapped_more xs i x within is g) ∙ flat_push f
+    (map g (take i xs)) (g x)

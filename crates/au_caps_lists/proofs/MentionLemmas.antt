@@ -47,7 +47,8 @@ pub in_parameter : (name : Bytes) → mentions (mean.parameter name) ≡ generic
 unfolding mentions
 in_parameter name = refl
 
-pub in_named : (at : DeclAt) (args : Arguments) → mentions (mean.named at args) ≡ declared at ∷ mentions_in_all args
+pub in_named : (at : DeclAt) (args : Arguments) → mentions (mean.named at args)
+    ≡ declared at ∷ mentions_in_all args
 unfolding mentions
 in_named at args = refl
 
@@ -73,12 +74,14 @@ in_none = refl
 
 -- those in one more argument
 push_argument : (xs : List Arg) (x : Arg)
-    → mentions_in_all (argument_all (xs ++ x ∷ [])) ≡ mentions_in_all (argument_all xs) ++ mentions_in (argument x)
+    → mentions_in_all (argument_all (xs ++ x ∷ [])) ≡ mentions_in_all (argument_all xs) ++ mentions_in
+    (argument x)
 unfolding mentions_in_all
 push_argument [] x = append-nil (mentions_in (argument x))
 push_argument (one ∷ rest) x =
     ap (λ r. mentions_in (argument one) ++ r) (push_argument rest x)
-    ∙ sym (append_assoc (mentions_in (argument one)) (mentions_in_all (argument_all rest)) (mentions_in (argument x)))
+    ∙ sym (append_assoc (mentions_in (argument one)) (mentions_in_all (argument_all rest))
+    (mentions_in (argument x)))
 
 pub more_arguments : (xs : List Arg) (i : ℕ) (x : Arg) → i < length xs → x ≡ get_or xs i x
     → mentions_in_all (argument_all (take (i + 1) xs))

@@ -45,7 +45,8 @@ module _ (sense : Bytes → Option Sense) where
 
     pub held_in_arms : NotedArms → List Mention
     held_in_arms no_arms = []
-    held_in_arms (arms at name binds b rest) = (bind_mentions sense binds ++ held_in_block b) ++ held_in_arms rest
+    held_in_arms (arms at name binds b rest) = (bind_mentions sense binds ++ held_in_block b) ++ held_in_arms
+        rest
 
 -- ---- arguments
 

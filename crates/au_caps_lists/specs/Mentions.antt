@@ -2,7 +2,8 @@
 use Rattle.std.specs.Prelude.{List, [], ◌∷◌, ◌++◌, Option, None, Some}
 use Rattle.std.specs.List.{flat_map}
 use Rattle.au_syntax.specs.Plain.{Bytes}
-use Rattle.au_syntax.specs.Types.{Bound, Labelled, WrittenType, WrittenTypes, named, reference, no_types, types}
+use Rattle.au_syntax.specs.Types.{Bound, Labelled, WrittenType, WrittenTypes, named, reference, no_types}
+use Rattle.au_syntax.specs.Types.{types}
 use Rattle.au_types.specs.declared.types.DeclAt.{DeclAt}
 use Rattle.au_types.specs.Senses as senses
 use Rattle.au_types.specs.Senses.{Sense}

@@ -1,12 +1,9 @@
 -- What the code's values say.
-use Rattle.std.specs.Prelude.{◌<◌, List, Option, None, Some, Contains, length, map}
+use Rattle.std.specs.Prelude.{◌<◌, List, Contains, length, map}
 use Rattle.std.specs.Option.{option_map}
 use Rattle.au_sights.specs.contracts.noted.NotedPhase.TheImpl.{ghosts as noted}
 use Rattle.au_syntax.specs.Views.{block, constrained, header, placed, written}
 use Rattle.au_modules.specs.Programs.{ModuleParts}
-use Rattle.au_typing.specs.Trees.{NotedEntry}
-use Rattle.au_noting_programs.specs.declared.modules.NotedModule.{NotedModule}
-use Rattle.au_noting_programs.specs.Said.{part_said}
 use Rattle.au_caps_lists.specs.declared.bodies.Body as code_body
 use Rattle.au_caps_lists.specs.declared.bodies.Home as code_home
 use Rattle.au_caps_lists.specs.declared.mentions.Mention as found
@@ -38,11 +35,6 @@ body_said one = record {
 
 abbrev pub bodies_said : List code_body.Body → List Bodied
 bodies_said all = map body_said all
-
--- the body of a module, if it is there and has one
-abbrev pub body_of : Option NotedModule → Option NotedEntry
-body_of None = None
-body_of (Some m) = part_said m.body
 
 -- each of these bodies stands in a module that is there
 abbrev pub AreWithin : List ModuleParts → List Bodied → Type 0

@@ -1,10 +1,10 @@
 //! The functions and methods of a program that have bodies.
 
-ghost use Rattle.std.specs.Prelude.{◌≡◌, ◌++◌, ◌∷◌, [], IfOk, OnOk, map, slice_get};
+ghost use Rattle.std.specs.Prelude.{◌≡◌, ◌++◌, ◌∷◌, [], IfOk, OnOk, map};
 ghost use Rattle.std.specs.List.{flat_map};
 ghost use Rattle.std.specs.Option.{option_copied};
 ghost use Rattle.au_caps_lists.specs.Bodies as spec;
-ghost use Rattle.au_caps_lists.specs.Views.{bodies_said, body_of, body_said, home_said};
+ghost use Rattle.au_caps_lists.specs.Views.{bodies_said, body_said, home_said};
 ghost use Rattle.au_noting_programs.specs.Said.{modules_said, part_said};
 ghost use Rattle.au_sights.specs.contracts.noted.NotedPhase.TheImpl.{ghosts as noted};
 ghost use Rattle.au_syntax.specs.Views.{constrained, declaration, method_body};
@@ -41,7 +41,8 @@ pub struct Body<'a> {
 
 /// Puts one more.
 fn push_body<'a>(made: &mut Vec<Body<'a>>, one: Body<'a>) -> Result<(), Memory>
-    ensures { OnOk result (bodies_said made.new.items ≡ bodies_said made.old.items ++ body_said one.entry ∷ []) }
+    ensures { OnOk result (bodies_said made.new.items ≡ bodies_said made.old.items ++ body_said one.entry ∷
+        []) }
 {
     made.push(one)?;
     Ok(())
@@ -138,21 +139,6 @@ fn push_file<'a>(
     }
 }
 
-/// Puts those of the module at a place, if it is there.
-fn push_module<'a>(
-    made: &mut Vec<Body<'a>>,
-    modules: &'a [NotedModule],
-    place: usize,
-) -> Result<(), Memory>
-    ensures { OnOk result (bodies_said made.new.items
-        ≡ bodies_said made.old.items ++ spec.bodied_of_file place (body_of (slice_get modules.now place))) }
-{
-    match modules.get(place) {
-        None => Ok(()),
-        Some(one) => push_file(made, place, one.body.as_ref()),
-    }
-}
-
 /// The functions and methods of modules that have bodies: modules by their places, and each in the order of the
 /// text.
 ///
@@ -163,8 +149,8 @@ pub fn bodies_of(alloc: Global, modules: &[NotedModule]) -> Result<Vec<Body<'_>>
     ensures { IfOk result (λ made. bodies_said made.items ≡ spec.all_bodied (modules_said modules.now)) }
 {
     let mut made = Vec::new(alloc);
-    for place in 0..modules.len() {
-        push_module(&mut made, modules, place)?;
+    for (place, one) in modules.iter().enumerate() {
+        push_file(&mut made, place, one.body.as_ref())?;
     }
     Ok(made)
 }

@@ -1,6 +1,7 @@
 //! The entries of what types mention.
 
-ghost use Rattle.std.specs.Prelude.{◌≡◌, ◌++◌, IfOk, OnOk, option_copied, option_to_list};
+ghost use Rattle.std.specs.Prelude.{◌≡◌, ◌++◌, ◌∷◌, [], IfOk, OnOk, if◌then◌else◌, option_copied};
+ghost use Rattle.std.specs.Prelude.{option_to_list};
 ghost use Rattle.au_caps_lists.specs.Entries as spec;
 ghost use Rattle.au_caps_lists.specs.Views.{mention_said, mentions_said};
 ghost use Rattle.au_caps_text.specs.Views.{texts_in};
@@ -64,6 +65,21 @@ pub fn push_heads<'a>(
     Ok(())
 }
 
+/// Puts the name of a type parameter, if values of the type that it stands for may be capabilities.
+fn push_parameter<'a>(
+    made: &mut Vec<&'a [u8]>,
+    params: &Params,
+    name: &'a Name,
+) -> Result<(), Memory>
+    ensures { OnOk result (texts_in made.new.items
+        ≡ texts_in made.old.items ++ (if heads.may_stand params.now name.now then name.now ∷ [] else [])) }
+{
+    if may_stand(params, name) {
+        return push_text(made, Some(name.as_bytes()));
+    }
+    Ok(())
+}
+
 /// Puts what a mention adds.
 fn push_entries<'a>(
     made: &mut Vec<&'a [u8]>,
@@ -78,12 +94,7 @@ fn push_entries<'a>(
 {
     match one {
         Mention::Declared(at) => push_heads(made, program, reaching, reaching.places(at)),
-        Mention::Parameter(name) => {
-            if may_stand(params, name) {
-                made.push(name.as_bytes())?;
-            }
-            Ok(())
-        }
+        Mention::Parameter(name) => push_parameter(made, params, name),
     }
 }
 
@@ -97,7 +108,8 @@ pub(crate) fn entries_of<'a>(
     mentions: &Vec<Mention<'a>>,
 ) -> Result<Vec<&'a [u8]>, Memory>
     ensures { IfOk result (λ made. texts_in made.items
-        ≡ spec.entries (slots.modules program.now) reaching.now params.now (mentions_said mentions.now.items)) }
+        ≡ spec.entries (slots.modules program.now) reaching.now params.now
+        (mentions_said mentions.now.items)) }
 {
     let mut made = Vec::new(alloc);
     for one in mentions {

@@ -21,7 +21,8 @@ pub(crate) fn push_parameters<'a>(
     parameters: &'a Vec<Field<Noted>>,
 ) -> Result<(), Memory>
     ensures { OnOk result (mentions_said made.new.items
-        ≡ mentions_said made.old.items ++ field_mentions (sense_in scope.now) (map (labelled noted) parameters.now.items)) }
+        ≡ mentions_said made.old.items ++ field_mentions (sense_in scope.now)
+        (map (labelled noted) parameters.now.items)) }
 {
     for one in parameters {
         push_written(made, scope, &one.of)?;
@@ -36,7 +37,8 @@ fn push_binds<'a>(
     binds: &'a Vec<Bind<Noted>>,
 ) -> Result<(), Memory>
     ensures { OnOk result (mentions_said made.new.items
-        ≡ mentions_said made.old.items ++ bind_mentions (sense_in scope.now) (map (bound noted) binds.now.items)) }
+        ≡ mentions_said made.old.items ++ bind_mentions (sense_in scope.now)
+        (map (bound noted) binds.now.items)) }
 {
     for one in binds {
         push_written(made, scope, &one.of)?;
@@ -102,7 +104,8 @@ fn push_branch<'a>(
     branch: &'a Branch<Noted>,
 ) -> Result<(), Memory>
     ensures { OnOk result (mentions_said made.new.items
-        ≡ mentions_said made.old.items ++ spec.held_in_block (sense_in scope.now) (block noted branch.now.block)) }
+        ≡ mentions_said made.old.items ++ spec.held_in_block (sense_in scope.now)
+        (block noted branch.now.block)) }
 {
     push_block(made, scope, &branch.block)
 }
@@ -115,7 +118,8 @@ fn push_branches<'a>(
     branches: &'a Vec<Branch<Noted>>,
 ) -> Result<(), Memory>
     ensures { OnOk result (mentions_said made.new.items
-        ≡ mentions_said made.old.items ++ spec.held_in_branches (sense_in scope.now) (branch_all noted branches.now.items)) }
+        ≡ mentions_said made.old.items ++ spec.held_in_branches (sense_in scope.now)
+        (branch_all noted branches.now.items)) }
 {
     for one in branches {
         push_branch(made, scope, one)?;
@@ -131,7 +135,8 @@ fn push_arm<'a>(
     arm: &'a Arm<Noted>,
 ) -> Result<(), Memory>
     ensures { OnOk result (mentions_said made.new.items
-        ≡ mentions_said made.old.items ++ (bind_mentions (sense_in scope.now) (map (bound noted) arm.now.binds.items)
+        ≡ mentions_said made.old.items ++ (bind_mentions (sense_in scope.now)
+        (map (bound noted) arm.now.binds.items)
         ++ spec.held_in_block (sense_in scope.now) (block noted arm.now.block))) }
 {
     push_binds(made, scope, &arm.binds)?;
@@ -146,7 +151,8 @@ fn push_arms<'a>(
     arms: &'a Vec<Arm<Noted>>,
 ) -> Result<(), Memory>
     ensures { OnOk result (mentions_said made.new.items
-        ≡ mentions_said made.old.items ++ spec.held_in_arms (sense_in scope.now) (arm_all noted arms.now.items)) }
+        ≡ mentions_said made.old.items ++ spec.held_in_arms (sense_in scope.now)
+        (arm_all noted arms.now.items)) }
 {
     for one in arms {
         push_arm(made, scope, one)?;

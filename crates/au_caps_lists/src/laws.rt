@@ -2,7 +2,8 @@
 
 ghost use Rattle.std.specs.Prelude.{◌≡◌, codes, false, true};
 ghost use Rattle.au_base.specs.declared.places.Pos.{Pos};
-ghost use Rattle.au_caps_lists.specs.Examples.{any, free, in_looped, in_maybe_boxed, looped, maybe_boxed, means};
+ghost use Rattle.au_caps_lists.specs.Examples.{any, free, in_looped, in_maybe_boxed, looped, maybe_boxed};
+ghost use Rattle.au_caps_lists.specs.Examples.{means};
 ghost use Rattle.au_caps_lists.specs.Holding.{held_in_block};
 ghost use Rattle.au_caps_lists.specs.Mentions.{mentions};
 ghost use Rattle.au_caps_types.specs.Heads.{may_stand};

@@ -24,7 +24,8 @@ fn types_at(program: &Resolved, place: usize) -> &Table<DeclAt>
 pub fn scope_of<'a>(program: &'a Resolved, params: &'a Params, place: usize) -> Scope<'a>
     requires { place < length (slots.modules program.now) }
     ensures { sense_in result ≡ sense_of [] params.now
-        (written.types_at (slots.modules program.now) place parts.Body) (heads_of (slots.modules program.now)) }
+        (written.types_at (slots.modules program.now) place parts.Body)
+        (heads_of (slots.modules program.now)) }
 {
     Scope {
         regions: &[],

@@ -9,7 +9,8 @@ use Rattle.au_caps.proofs.edges.add_callee.Goals as goal
 pub returns-in-Birth : goal.returns-in-Birth
 returns-in-Birth c =
     subst (λ x. OnOk c.add_birth.result (Grows (call_arcs c.args.own (callee_said x))
-    (birth_pairs c.args.reaching.now c.args.own (callee_said x)) c.args.web.now c.add_birth.new.web)) (sym c.in-Birth.is)
+    (birth_pairs c.args.reaching.now c.args.own (callee_said x)) c.args.web.now c.add_birth.new.web))
+    (sym c.in-Birth.is)
     c.add_birth.ensures
 
 pub returns-in-Function : goal.returns-in-Function

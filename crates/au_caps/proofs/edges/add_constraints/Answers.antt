@@ -23,5 +23,6 @@ loop-other-preserved c =
     grows_as _ (constraint_arcs class one (take (i + 1) others)) [] [] _ _
     (sym (mapped_more others i other c.loop-other-test.true
     (get_or_default others i none other c.loop-other-test.true) arc)) refl
-    (grows_then (constraint_arcs class one (take i others)) (arc other ∷ []) [] [] _ _ _ c.loop-other.invariant
+    (grows_then (constraint_arcs class one (take i others)) (arc other ∷ []) [] [] _ _ _
+    c.loop-other.invariant
     c.in_ok-add_constraint.ensures)

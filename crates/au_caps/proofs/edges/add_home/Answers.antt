@@ -22,5 +22,6 @@ returns-in_ok-others-in-Some c =
     let others = c.as_slice.ensures.value ∙ c.in_ok-others.ensures in
     IfOk-weaker c.add_of_class.result _ _
     (λ u g. grows_as _ _ [] [] _ _
-    (λ i. method_arcs c.args.own b (c.in-Some.ensures i) (c.constructor_written-one.ensures i) (others i)) refl g)
+    (λ i. method_arcs c.args.own b (c.in-Some.ensures i) (c.constructor_written-one.ensures i) (others i))
+    refl g)
     c.add_of_class.ensures

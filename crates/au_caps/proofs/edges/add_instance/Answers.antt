@@ -10,6 +10,8 @@ returns c =
     let class = c.args.class in
     let one = c.args.one in
     let own = c.args.own in
-    grows_then ((a_callee (an_instance class one), a_body own) ∷ []) (constraint_arcs class one c.args.others.now) [] []
-    _ _ _ (c.in_ok-add_from.ensures (an_instance class one) (a_body own) c.in_ok-key.ensures (refl, c.requires))
+    grows_then ((a_callee (an_instance class one), a_body own) ∷ [])
+    (constraint_arcs class one c.args.others.now) [] []
+    _ _ _ (c.in_ok-add_from.ensures (an_instance class one) (a_body own) c.in_ok-key.ensures
+    (refl, c.requires))
     c.in_ok-add_constraints.ensures

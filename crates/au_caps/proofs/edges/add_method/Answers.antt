@@ -14,6 +14,7 @@ returns c =
     let name = c.args.name.now in
     let first = c.in_ok-add_from.ensures (a_method class name) (a_body own)
     (c.in_ok-key.ensures ∙ ap (λ n. key_of (a_method class n)) c.as_bytes.ensures.bytes) (refl, c.requires) in
-    grows_then ((a_callee (a_method class name), a_body own) ∷ []) ((a_callee (a_class class), a_body own) ∷ []) [] []
+    grows_then ((a_callee (a_method class name), a_body own) ∷ [])
+    ((a_callee (a_class class), a_body own) ∷ []) [] []
     _ _ _ first (c.in_ok-add_from-2.ensures (a_class class) (a_body own) c.in_ok-key-2.ensures
     (refl, subst (λ n. own < n) (sym first.count) c.requires))

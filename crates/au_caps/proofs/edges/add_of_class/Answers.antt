@@ -17,7 +17,8 @@ returns-in-None c =
     let class = c.args.class in
     let b = body_said c.args.body.now in
     grows_as _ (method_arcs own b (Some class) c.args.one c.args.others.now) [] [] _ _
-    (ap (λ o. method_arcs own b (Some class) o c.args.others.now) (sym c.in-None.is)) refl c.in_ok-add_method.ensures
+    (ap (λ o. method_arcs own b (Some class) o c.args.others.now) (sym c.in-None.is)) refl
+    c.in_ok-add_method.ensures
 
 pub returns-in-Some : goal.returns-in-Some
 returns-in-Some c =
@@ -25,9 +26,11 @@ returns-in-Some c =
     let class = c.args.class in
     let b = body_said c.args.body.now in
     let others = c.args.others.now in
-    let both = (a_callee (a_method class b.header.name.name), a_body own) ∷ (a_callee (a_class class), a_body own) ∷ [] in
+    let both = (a_callee (a_method class b.header.name.name), a_body own) ∷
+    (a_callee (a_class class), a_body own) ∷ [] in
     IfOk-weaker c.add_instance.result _ _
     (λ u g. grows_as _ (method_arcs own b (Some class) c.args.one others) [] [] _ _
     (ap (λ o. method_arcs own b (Some class) o others) (sym c.in-Some.is)) refl
-    (grows_then both (instance_arcs own class (Some c.in-Some.one) others) [] [] _ _ _ c.in_ok-add_method.ensures g))
+    (grows_then both (instance_arcs own class (Some c.in-Some.one) others) [] [] _ _ _
+    c.in_ok-add_method.ensures g))
     c.add_instance.ensures

@@ -17,7 +17,8 @@ pub returns : goal.returns
 returns c =
     let program = slots.modules c.args.program.now in
     let place = c.args.body.now.place in
-    let same = known_at program place c.names-names.result.now.callables (seen_in Callables program place Body) c.requires
+    let same = known_at program place c.names-names.result.now.callables
+    (seen_in Callables program place Body) c.requires
     c.names-names.ensures.callables in
     subst (λ leads. IfOk c.calls_in_block.result (λ called. map callee_said called.items
     ≡ calls_in_block leads (block noted c.args.body.now.block.now)))

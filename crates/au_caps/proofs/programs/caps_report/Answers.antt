@@ -25,5 +25,6 @@ returns c =
     (λ report is. (
       noted,
       c.modules.ensures.found,
-      subst (λ p. IsReportOf (slots.modules p) noted report) c.program-program.ensures (is noted c.in_ok-bodies.ensures),
+      subst (λ p. IsReportOf (slots.modules p) noted report) c.program-program.ensures
+          (is noted c.in_ok-bodies.ensures),
     )) c.report_of.ensures

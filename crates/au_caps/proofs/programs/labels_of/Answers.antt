@@ -15,6 +15,8 @@ returns c =
     let graph = c.in_ok-graph.graph in
     let labels = c.in_ok-labels.labels in
     IfOk-weaker c.spread.result (AreSpread graph labels) _
-    (λ made spread noted same. all_labelled program noted bodies same r c.requires.reached c.in_ok-web.web (length c.args.bodies.now.items)
-    c.in_ok-web.ensures (sym (length-map c.args.bodies.now.items body_said)) graph labels made c.in_ok-graph.ensures c.len.result c.len.ensures c.in_ok-labels.ensures spread)
+    (λ made spread noted same. all_labelled program noted bodies same r c.requires.reached c.in_ok-web.web
+    (length c.args.bodies.now.items)
+    c.in_ok-web.ensures (sym (length-map c.args.bodies.now.items body_said)) graph labels made
+    c.in_ok-graph.ensures c.len.result c.len.ensures c.in_ok-labels.ensures spread)
     c.spread.ensures

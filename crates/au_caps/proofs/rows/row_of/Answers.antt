@@ -11,7 +11,8 @@ returns c = λ noted labels.
     let program = slots.modules c.args.program.now in
     let b = body_said c.args.body.now in
     record {
-      name = c.in_ok-function.ensures ∙ ap (λ owner. owner ++ 58 ∷ b.header.name.name) c.owner_of-owner.ensures;
+      name = c.in_ok-function.ensures ∙ ap (λ owner. owner ++ 58 ∷ b.header.name.name)
+          c.owner_of-owner.ensures;
       makes =
           listed_by (HasLabel program c.args.reaching.now c.args.made.now c.args.number)
           (BodyMakes program noted b) c.in_ok-makes.makes labels c.in_ok-makes.ensures;

@@ -9,5 +9,6 @@ use Rattle.au_caps.proofs.rows.rows_of.Given as goal
 -- the rows of the bodies so far
 abbrev pub invariant-loop-own : goal.invariant-loop-own
 invariant-loop-own l =
-    (noted : List NotedParts) → AreLabelled (slots.modules l.program) noted l.reaching (bodies_said l.one-items) l.made
+    (noted : List NotedParts) → AreLabelled (slots.modules l.program) noted l.reaching
+    (bodies_said l.one-items) l.made
     → AreRowsOf (slots.modules l.program) noted (bodies_said (take l.own l.one-items)) l.rows.items

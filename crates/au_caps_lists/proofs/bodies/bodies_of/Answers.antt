@@ -1,7 +1,8 @@
-use Rattle.std.proofs.Common.{◌<◌, ◌++◌, length, sym, ap, ◌∙◌, arith}
-use Rattle.std.specs.Prelude.{slice_get}
-use Rattle.au_caps_lists.specs.Bodies.{bodied_of_file}
-use Rattle.au_caps_lists.specs.Views.{bodies_said, body_of}
+use Rattle.std.proofs.Common.{◌++◌, sym, ap, ◌∙◌, arith}
+use Rattle.std.proofs.lemmas.List.{take_all}
+use Rattle.au_noting_programs.specs.Said.{modules_said, part_said}
+use Rattle.au_caps_lists.specs.Bodies.{all_bodied_from, bodied_of_file}
+use Rattle.au_caps_lists.specs.Views.{bodies_said}
 use Rattle.au_caps_lists.proofs.BodyLemmas.{bodied_more, none_bodied}
 use Rattle.au_caps_lists.proofs.bodies.bodies_of.Goals as goal
 
@@ -12,7 +13,15 @@ pub loop-place-preserved : goal.loop-place-preserved
 loop-place-preserved c =
     let modules = c.args.modules.now in
     let place = c.loop-place.place in
-    let within : place < length modules = omega (arith, c.loop-place-test.true) in
-    c.in_ok-push_module.ensures
-    ∙ ap (λ l. l ++ bodied_of_file place (body_of (slice_get modules place))) c.loop-place.invariant
-    ∙ sym (bodied_more modules place _ within)
+    let one = c.one-item.result in
+    c.in_ok-push_file.ensures
+    ∙ ap (λ f. bodies_said c.loop-place.made.items ++ bodied_of_file place (part_said f))
+    c.as_ref.ensures.value
+    ∙ ap (λ l. l ++ bodied_of_file place (part_said one.body)) c.loop-place.invariant
+    ∙ sym (bodied_more modules place one c.loop-place-test.true c.one-item.is)
+
+pub returns : goal.returns
+returns c =
+    c.loop-place.invariant
+    ∙ ap (λ l. all_bodied_from 0 (modules_said l))
+    (take_all c.loop-place.place c.args.modules.now (omega (arith, c.loop-place-test.false)))

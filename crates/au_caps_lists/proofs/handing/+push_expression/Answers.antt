@@ -54,8 +54,10 @@ push_expression-returns-in-Typed t c = grind (arith, lemmas.typed_hands)
 pub push_expression-returns-in_ok-push_types-in-Call : goal.push_expression-returns-in_ok-push_types-in-Call
 push_expression-returns-in_ok-push_types-in-Call t c = grind (arith, common_steps, lemmas.call_hands)
 
-pub push_expression-returns-in_ok-push_named_types-in-NamedCall : goal.push_expression-returns-in_ok-push_named_types-in-NamedCall
-push_expression-returns-in_ok-push_named_types-in-NamedCall t c = grind (arith, common_steps, lemmas.named_call_hands)
+pub push_expression-returns-in_ok-push_named_types-in-NamedCall :
+    goal.push_expression-returns-in_ok-push_named_types-in-NamedCall
+push_expression-returns-in_ok-push_named_types-in-NamedCall t c = grind
+    (arith, common_steps, lemmas.named_call_hands)
 
 pub push_expression-returns-in_ok-push_expression-in-Binary :
     goal.push_expression-returns-in_ok-push_expression-in-Binary
@@ -70,7 +72,8 @@ push_expressions-loop-one-init t c = sym (append-nil (mentions_said c.args.made.
 
 pub push_expressions-loop-one-preserved : goal.push_expressions-loop-one-preserved
 push_expressions-loop-one-preserved t c =
-    found_more (expression_all noted) snoc_expressions (expression noted) handed_in_all handed_in (expressions_push noted) expressions_hand
+    found_more (expression_all noted) snoc_expressions (expression noted) handed_in_all handed_in
+    (expressions_push noted) expressions_hand
     (mentions_said c.args.made.now.items) _ _ c.deref-one-items.result.now c.loop-one.one-index
     c.one-item.result c.loop-one.invariant c.loop-one-test.true c.one-item.is
     c.in_ok-push_expression.ensures
@@ -80,7 +83,8 @@ push_arguments-loop-one-init t c = sym (append-nil (mentions_said c.args.made.no
 
 pub push_arguments-loop-one-preserved : goal.push_arguments-loop-one-preserved
 push_arguments-loop-one-preserved t c =
-    found_more (argument_all noted) snoc_arguments (one_argument noted) handed_in_arguments handed_in_arguments (arguments_push noted) arguments_hand
+    found_more (argument_all noted) snoc_arguments (one_argument noted) handed_in_arguments
+    handed_in_arguments (arguments_push noted) arguments_hand
     (mentions_said c.args.made.now.items) _ _ c.deref-one-items.result.now c.loop-one.one-index
     c.one-item.result c.loop-one.invariant c.loop-one-test.true c.one-item.is
     (alone_behind (mentions_said c.loop-one.made.items)

@@ -6,7 +6,8 @@ use Rattle.au_syntax.specs.Views.{arm_all, block, branch_all, expression, statem
 use Rattle.au_closed_trees.proofs.LoopLemmas.{alone_behind, found_more}
 use Rattle.au_closed_trees.proofs.SnocLemmas.{arms_push, branches_push, one_arm, one_branch, snoc_arms}
 use Rattle.au_closed_trees.proofs.SnocLemmas.{snoc_branches, snoc_statements, statements_push}
-use Rattle.au_caps_lists.specs.Holding.{handed_by, handed_by_arms, handed_by_block, handed_by_branches, handed_in}
+use Rattle.au_caps_lists.specs.Holding.{handed_by, handed_by_arms, handed_by_block, handed_by_branches}
+use Rattle.au_caps_lists.specs.Holding.{handed_in}
 use Rattle.au_caps_lists.specs.Views.{mentions_said}
 use Rattle.au_caps_lists.proofs.HandLemmas as lemmas
 use Rattle.au_caps_lists.proofs.HandLemmas.{arms_hand, branches_hand, statements_hand}
@@ -66,7 +67,8 @@ push_block-loop-one-init t c = sym (append-nil (mentions_said c.args.made.now.it
 
 pub push_block-loop-one-preserved : goal.push_block-loop-one-preserved
 push_block-loop-one-preserved t c =
-    found_more (statement_all noted) snoc_statements (statement noted) handed_by_block handed_by (statements_push noted) statements_hand
+    found_more (statement_all noted) snoc_statements (statement noted) handed_by_block handed_by
+    (statements_push noted) statements_hand
     (mentions_said c.args.made.now.items) _ _ c.deref-one-items.result.now c.loop-one.one-index
     c.one-item.result c.loop-one.invariant c.loop-one-test.true c.one-item.is
     c.in_ok-push_statement.ensures
@@ -76,7 +78,8 @@ push_branches-loop-one-init t c = sym (append-nil (mentions_said c.args.made.now
 
 pub push_branches-loop-one-preserved : goal.push_branches-loop-one-preserved
 push_branches-loop-one-preserved t c =
-    found_more (branch_all noted) snoc_branches (one_branch noted) handed_by_branches handed_by_branches (branches_push noted) branches_hand
+    found_more (branch_all noted) snoc_branches (one_branch noted) handed_by_branches handed_by_branches
+    (branches_push noted) branches_hand
     (mentions_said c.args.made.now.items) _ _ c.deref-one-items.result.now c.loop-one.one-index
     c.one-item.result c.loop-one.invariant c.loop-one-test.true c.one-item.is
     (alone_behind (mentions_said c.loop-one.made.items)
@@ -88,7 +91,8 @@ push_arms-loop-one-init t c = sym (append-nil (mentions_said c.args.made.now.ite
 
 pub push_arms-loop-one-preserved : goal.push_arms-loop-one-preserved
 push_arms-loop-one-preserved t c =
-    found_more (arm_all noted) snoc_arms (one_arm noted) handed_by_arms handed_by_arms (arms_push noted) arms_hand
+    found_more (arm_all noted) snoc_arms (one_arm noted) handed_by_arms handed_by_arms
+    (arms_push noted) arms_hand
     (mentions_said c.args.made.now.items) _ _ c.deref-one-items.result.now c.loop-one.one-index
     c.one-item.result c.loop-one.invariant c.loop-one-test.true c.one-item.is
     (alone_behind (mentions_said c.loop-one.made.items)

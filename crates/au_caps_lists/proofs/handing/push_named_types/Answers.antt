@@ -19,7 +19,8 @@ loop-one-preserved c =
     let items = c.deref-one-items.result.now in
     let start = mentions_said c.loop-one.made.items in
     let grows = c.in_ok-push_type.ensures ∙ ap (λ t. start ++ mentions t) c.type_of.ensures in
-    found_more (argument_all noted) snoc_arguments (one_argument noted) named_mention named_mention (arguments_push noted) named_push
+    found_more (argument_all noted) snoc_arguments (one_argument noted) named_mention named_mention
+    (arguments_push noted) named_push
     (mentions_said c.args.made.now.items) _ _ items c.loop-one.one-index
     c.one-item.result c.loop-one.invariant c.loop-one-test.true c.one-item.is
     (alone_behind start (mentions (type_of (expression noted c.one-item.result.value))) _ grows)

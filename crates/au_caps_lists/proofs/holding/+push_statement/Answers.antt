@@ -66,7 +66,8 @@ push_block-loop-one-init t c = sym (append-nil (mentions_said c.args.made.now.it
 pub push_block-loop-one-preserved : goal.push_block-loop-one-preserved
 push_block-loop-one-preserved t c =
     let sense = sense_in c.args.scope.now in
-    found_more (statement_all noted) snoc_statements (statement noted) (held_in_block sense) (held_in sense) (statements_push noted) (statements_hold sense)
+    found_more (statement_all noted) snoc_statements (statement noted) (held_in_block sense) (held_in sense)
+    (statements_push noted) (statements_hold sense)
     (mentions_said c.args.made.now.items) _ _ c.deref-one-items.result.now c.loop-one.one-index
     c.one-item.result c.loop-one.invariant c.loop-one-test.true c.one-item.is
     c.in_ok-push_statement.ensures
@@ -77,7 +78,8 @@ push_branches-loop-one-init t c = sym (append-nil (mentions_said c.args.made.now
 pub push_branches-loop-one-preserved : goal.push_branches-loop-one-preserved
 push_branches-loop-one-preserved t c =
     let sense = sense_in c.args.scope.now in
-    found_more (branch_all noted) snoc_branches (one_branch noted) (held_in_branches sense) (held_in_branches sense) (branches_push noted) (branches_hold sense)
+    found_more (branch_all noted) snoc_branches (one_branch noted) (held_in_branches sense)
+    (held_in_branches sense) (branches_push noted) (branches_hold sense)
     (mentions_said c.args.made.now.items) _ _ c.deref-one-items.result.now c.loop-one.one-index
     c.one-item.result c.loop-one.invariant c.loop-one-test.true c.one-item.is
     (alone_behind (mentions_said c.loop-one.made.items)
@@ -89,7 +91,8 @@ push_arms-loop-one-init t c = sym (append-nil (mentions_said c.args.made.now.ite
 pub push_arms-loop-one-preserved : goal.push_arms-loop-one-preserved
 push_arms-loop-one-preserved t c =
     let sense = sense_in c.args.scope.now in
-    found_more (arm_all noted) snoc_arms (one_arm noted) (held_in_arms sense) (held_in_arms sense) (arms_push noted) (arms_hold sense)
+    found_more (arm_all noted) snoc_arms (one_arm noted) (held_in_arms sense) (held_in_arms sense)
+    (arms_push noted) (arms_hold sense)
     (mentions_said c.args.made.now.items) _ _ c.deref-one-items.result.now c.loop-one.one-index
     c.one-item.result c.loop-one.invariant c.loop-one-test.true c.one-item.is
     (alone_behind (mentions_said c.loop-one.made.items)

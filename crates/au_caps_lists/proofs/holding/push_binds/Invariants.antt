@@ -11,4 +11,5 @@ use Rattle.au_caps_lists.proofs.holding.push_binds.Given as goal
 abbrev pub invariant-loop-one : goal.invariant-loop-one
 invariant-loop-one l =
     mentions_said l.made.items
-    ≡ mentions_said l.fn.made.items ++ bind_mentions (sense_in l.scope) (map (bound noted) (take l.one-index l.one-items))
+    ≡ mentions_said l.fn.made.items ++ bind_mentions (sense_in l.scope)
+    (map (bound noted) (take l.one-index l.one-items))

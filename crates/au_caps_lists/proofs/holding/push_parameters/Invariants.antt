@@ -11,4 +11,5 @@ use Rattle.au_caps_lists.proofs.holding.push_parameters.Given as goal
 abbrev pub invariant-loop-one : goal.invariant-loop-one
 invariant-loop-one l =
     mentions_said l.made.items
-    ≡ mentions_said l.fn.made.items ++ field_mentions (sense_in l.scope) (map (labelled noted) (take l.one-index l.one-items))
+    ≡ mentions_said l.fn.made.items ++ field_mentions (sense_in l.scope)
+    (map (labelled noted) (take l.one-index l.one-items))

@@ -13,6 +13,7 @@ returns c =
     let program = slots.modules c.args.program.now in
     let texts = texts_in c.in_ok-texts.texts.items in
     let all = mentions_said c.args.mentions.now.items in
-    IfOk-weaker c.list_of.result (IsListOf (Contains texts)) (IsListOf (Reaches program c.args.params.now all))
+    IfOk-weaker c.list_of.result (IsListOf (Contains texts)) (IsListOf
+    (Reaches program c.args.params.now all))
     (λ list is. entries_listed program c.args.reaching.now c.requires.reached c.args.params.now all texts
     c.in_ok-texts.ensures list is) c.list_of.ensures

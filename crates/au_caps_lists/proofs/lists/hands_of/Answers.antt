@@ -23,4 +23,5 @@ returns c =
     ∙ ap (λ l. l ++ handed_by_block b.block) (c.in_ok-push_written.ensures
     ∙ ap (λ l. mentions_said l ++ written_mentions sense b.header.result) c.new-mentions.ensures.items) in
     IfOk-weaker c.entries_listed.result (IsListOf (Reaches program params all)) (IsListOf (Hands program b))
-    (λ list is. hands_listed program b params sense all c.requires.params is_sense are list is) c.entries_listed.ensures
+    (λ list is. hands_listed program b params sense all c.requires.params is_sense are list is)
+    c.entries_listed.ensures

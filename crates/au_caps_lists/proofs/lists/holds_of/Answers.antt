@@ -23,4 +23,5 @@ returns c =
     ∙ ap (λ l. l ++ held_in_block sense b.block) (c.in_ok-push_parameters.ensures
     ∙ ap (λ l. mentions_said l ++ field_mentions sense b.header.parameters) c.new-mentions.ensures.items) in
     IfOk-weaker c.entries_listed.result (IsListOf (Reaches program params all)) (IsListOf (Holds program b))
-    (λ list is. holds_listed program b params sense all c.requires.params is_sense are list is) c.entries_listed.ensures
+    (λ list is. holds_listed program b params sense all c.requires.params is_sense are list is)
+    c.entries_listed.ensures

@@ -2,11 +2,13 @@ use Rattle.std.proofs.Common.{[], ◌∷◌, ◌++◌, take, sym, ap, ◌∙◌,
 use Rattle.std.proofs.lemmas.List.{append-nil}
 use Rattle.std.proofs.lemmas.Result.{IfOk-weaker}
 use Rattle.au_types.specs.Views.{argument, argument_all, meaning}
-use Rattle.au_types.proofs.TypeLemmas.{integer_means, named_means, region_argument_means, text_means, truth_means}
+use Rattle.au_types.proofs.TypeLemmas.{integer_means, named_means, region_argument_means, text_means}
+use Rattle.au_types.proofs.TypeLemmas.{truth_means}
 use Rattle.au_types.proofs.TypeLemmas.{unit_means}
 use Rattle.au_caps_lists.specs.Mentions.{declared, mentions, mentions_in, mentions_in_all}
 use Rattle.au_caps_lists.specs.Views.{mentions_said}
-use Rattle.au_caps_lists.proofs.MentionLemmas.{in_integer, in_named, in_none, in_region, in_text, in_truth, in_unit}
+use Rattle.au_caps_lists.proofs.MentionLemmas.{in_integer, in_named, in_none, in_region, in_text, in_truth}
+use Rattle.au_caps_lists.proofs.MentionLemmas.{in_unit}
 use Rattle.au_caps_lists.proofs.MentionLemmas.{more_arguments, nothing_more}
 use Rattle.au_caps_lists.proofs.mentions.+push_type.Goals as goal
 

@@ -21,5 +21,6 @@ push_all_written-loop-one-preserved t c =
     let item = c.one-item.result in
     c.in_ok-push_written.ensures
     ∙ ap (λ r. r ++ written_mentions sense (written item)) c.loop-one.invariant
-    ∙ append_assoc start (all_written sense (written_all (take i items))) (written_mentions sense (written item))
+    ∙ append_assoc start (all_written sense (written_all (take i items)))
+    (written_mentions sense (written item))
     ∙ ap (λ r. start ++ r) (sym (more_written sense items i item c.loop-one-test.true c.one-item.is))

@@ -10,4 +10,5 @@ returns-in-Some c =
     let w = c.args.self.now in
     subst (λ n. IfOk c.graph_of.result (IsGraphOf n w.edges.items))
     (c.in-Some.ensures.1 ∙ ap (λ k. w.count + k) (c.len.ensures.len ∙ sym (length-map w.keys.keys numbers)))
-    (subst (λ es. IfOk c.graph_of.result (IsGraphOf c.in-Some.nodes es)) c.as_slice.ensures.value c.graph_of.ensures)
+    (subst (λ es. IfOk c.graph_of.result (IsGraphOf c.in-Some.nodes es)) c.as_slice.ensures.value
+    c.graph_of.ensures)
