@@ -1,0 +1,4 @@
+pub mod BearLemmas
+pub mod ShipLemmas
+pub mod EvalLemmas
+pub mod RunLemmas
