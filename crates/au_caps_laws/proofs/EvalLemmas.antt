@@ -18,7 +18,7 @@ use Rattle.au_syntax.specs.Expressions.{borrow, borrow_part, binary, negation, t
 use Rattle.au_syntax.specs.Expressions.{expressions, no_arguments, arguments}
 use Rattle.au_syntax.specs.Plain.{Bytes}
 use Rattle.au_type_texts.specs.Types.{ClosedType}
-use Rattle.au_bearing.specs.Calls.{calls_in, calls_in_all, calls_in_arguments}
+use Rattle.au_closed_trees.specs.Calls.{calls_in, calls_in_all, calls_in_arguments}
 use Rattle.au_meaning.specs.Acts.{access_of, borrowed_place, by_labels, by_position, closed_to, closing, counts_open}
 use Rattle.au_meaning.specs.Acts.{in_store, lends, looks, makes_value, moves, place_of, reads, reference_held, refers}
 use Rattle.au_meaning.specs.Acts.{with_borrow, with_value, frame_in}
@@ -31,11 +31,11 @@ use Rattle.au_meaning.specs.Ticks.{Action, Out, aborts, comes, cut, does, gives,
 use Rattle.au_meaning.specs.Ticks.{◌>>=◌, ◌>>◌}
 use Rattle.au_meaning.specs.Views.{Act, Callee, View, invokes, makes, ships}
 use Rattle.au_meaning.specs.Worlds.{Borrow, Event, Store, Value, World}
-use Rattle.au_bearing.specs.Bearing.{AreWithin, Bears, BearsTo, IsWithin, StaysWithin, act_in}
-use Rattle.au_bearing.proofs.BearLemmas.{Keeps, and_keeps, asks_keeps, bears_closes, bears_one, bears_same, comes_keeps}
-use Rattle.au_bearing.proofs.BearLemmas.{does_keeps, needing_keeps, pure_keeps, stuck_keeps, takes_keeps, then_keeps}
-use Rattle.au_bearing.proofs.BearLemmas.{tick_keeps, truth_keeps, where_keeps}
-use Rattle.au_bearing.proofs.ShipLemmas.{born_bears, read_bears, ships_keeps}
+use Rattle.au_caps_laws.specs.Bearing.{AreWithin, Bears, BearsTo, IsWithin, StaysWithin, act_in}
+use Rattle.au_caps_laws.proofs.BearLemmas.{Keeps, and_keeps, asks_keeps, bears_closes, bears_one, bears_same, comes_keeps}
+use Rattle.au_caps_laws.proofs.BearLemmas.{does_keeps, needing_keeps, pure_keeps, stuck_keeps, takes_keeps, then_keeps}
+use Rattle.au_caps_laws.proofs.BearLemmas.{tick_keeps, truth_keeps, where_keeps}
+use Rattle.au_caps_laws.proofs.ShipLemmas.{born_bears, read_bears, ships_keeps}
 use Rattle.au_effects.specs.Worlds as effects
 
 -- ---- wider bounds

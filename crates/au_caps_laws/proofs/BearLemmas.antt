@@ -10,7 +10,7 @@ use Rattle.au_meaning.specs.Ticks.{Action, Out, aborts, asks, by_truth, comes, c
 use Rattle.au_meaning.specs.Ticks.{needing, no_rule, over, pure, stuck, takes, tick, ticked, where_true, ◌>>=◌}
 use Rattle.au_meaning.specs.Ticks.{◌>>◌}
 use Rattle.au_meaning.specs.Worlds.{Event, Store, Value, World}
-use Rattle.au_bearing.specs.Bearing.{AreWithin, Bears, BearsTo, IsWithin}
+use Rattle.au_caps_laws.specs.Bearing.{AreWithin, Bears, BearsTo, IsWithin}
 
 module _ (P : ClosedType → Type 0) where
   -- ---- stores

@@ -20,9 +20,9 @@ use Rattle.au_type_texts.specs.Types.{ClosedType}
 use Rattle.au_meaning.specs.Acts.{answered, heard, in_store, next_byte, operation, other_bytes, shipped_by, ships_call, told}
 use Rattle.au_meaning.specs.Ticks.{Action, comes}
 use Rattle.au_meaning.specs.Worlds.{Store, Value, World}
-use Rattle.au_bearing.specs.Bearing.{Bears, BearsTo}
-use Rattle.au_bearing.proofs.BearLemmas.{FoundBears, Keeps, bears_as, bears_one, bears_same, bears_spends}
-use Rattle.au_bearing.proofs.BearLemmas.{bears_then, comes_keeps}
+use Rattle.au_caps_laws.specs.Bearing.{Bears, BearsTo}
+use Rattle.au_caps_laws.proofs.BearLemmas.{FoundBears, Keeps, bears_as, bears_one, bears_same, bears_spends}
+use Rattle.au_caps_laws.proofs.BearLemmas.{bears_then, comes_keeps}
 
 module _ (P : ClosedType → Type 0) where
   -- ---- places

@@ -2,7 +2,7 @@
 use Rattle.std.specs.Prelude.{◌≡◌, Bool, true, List, [], ◌∷◌, ◌++◌, Option, None, Some, Contains}
 use Rattle.au_effects.specs.Worlds.{born}
 use Rattle.au_type_texts.specs.Types.{ClosedType}
-use Rattle.au_bearing.specs.Calls.{calls_in_block}
+use Rattle.au_closed_trees.specs.Calls.{calls_in_block}
 use Rattle.au_meaning.specs.Ticks.{Out, gives, aborts, cut, no_rule}
 use Rattle.au_meaning.specs.Views.{Act, Callee, Function, invokes, makes, ships}
 use Rattle.au_meaning.specs.Worlds.{Event, Store, World}
@@ -44,8 +44,8 @@ acts_in f = calls_in_block (λ note c name. act_in (f.view.callee note c name)) 
 
 -- What may be born by a call is of these types, given which types those are for each function: so is what a
 -- function may bear that is called, what is made, where it is linear, and what a shipped call bears.
-abbrev pub StaysWithin : {I : Type 0} → (I → ClosedType → Type 0) → (ClosedType → Bool) → (ClosedType → Type 0)
-    → Act I → Type 0
+abbrev pub StaysWithin : {I : Type 0} → (I → ClosedType → Type 0) → (ClosedType → Bool)
+    → (ClosedType → Type 0) → Act I → Type 0
 StaysWithin Q is_linear P (invokes one) = (of : ClosedType) → Q one of → P of
 StaysWithin Q is_linear P (makes of tag home) = is_linear of ≡ true → P of
 StaysWithin Q is_linear P (ships call of) = (t : ClosedType) → of ≡ Some t → P t

@@ -17,7 +17,7 @@ use Rattle.au_syntax.specs.Statements.{while_loop, for_loop, borrow_in, borrow_t
 use Rattle.au_syntax.specs.Statements.{no_statements, statements, no_branches, branches, no_arms, arms}
 use Rattle.au_syntax.specs.Types.{Bound}
 use Rattle.au_type_texts.specs.Types.{ClosedType}
-use Rattle.au_bearing.specs.Calls.{calls_in, calls_in_arms, calls_in_block, calls_in_branches, calls_in_statement}
+use Rattle.au_closed_trees.specs.Calls.{calls_in, calls_in_arms, calls_in_block, calls_in_branches, calls_in_statement}
 use Rattle.au_meaning.specs.Acts.{apart, begins, bound_counted, closed_to, emptied, ends_frame, holds, in_store}
 use Rattle.au_meaning.specs.Acts.{new_names, place_of, puts, sets, stored, tells_apart, with_value, with_values}
 use Rattle.au_meaning.specs.Expressions.{chosen, names_of, note_of, reaches, whole}
@@ -32,15 +32,15 @@ use Rattle.au_meaning.specs.Statements.{takes_apart, while_turns, with_counter, 
 use Rattle.au_meaning.specs.Ticks.{Action, Out, aborts, cut, does, follows, found_in, gives, no_rule, pure, tick, where_true, ◌>>=◌, ◌>>◌}
 use Rattle.au_meaning.specs.Views.{Act, Field, Function, View}
 use Rattle.au_meaning.specs.Worlds.{Event, Outcome, Store, Value, World}
-use Rattle.au_bearing.specs.Bearing.{AreBounds, AreWithin, Bears, BearsTo, StaysWithin, acts_in}
-use Rattle.au_bearing.specs.Laws.{CallsBearWithin, IsRootAlone, RunBearsWithin, RunsBearWithin, no_root, the_root}
-use Rattle.au_bearing.proofs.BearLemmas.{FoundBears, Keeps, and_keeps, asks_keeps, bears_out, bears_same, bears_spends, does_keeps}
-use Rattle.au_bearing.proofs.BearLemmas.{needing_keeps, over_keeps, pure_keeps, stuck_keeps, takes_keeps, then_keeps}
-use Rattle.au_bearing.proofs.BearLemmas.{tick_keeps, where_keeps}
-use Rattle.au_bearing.proofs.EvalLemmas as eval
-use Rattle.au_bearing.proofs.EvalLemmas.{Stay, chosen_keeps, closed_keeps, closing_keeps, eval_keeps, leads, left_stay}
-use Rattle.au_bearing.proofs.EvalLemmas.{lends_keeps, reaches_keeps, right_stay, value_keeps, whole_keeps}
-use Rattle.au_bearing.proofs.ShipLemmas.{apart_bears, exchanged_bears, put_bears}
+use Rattle.au_caps_laws.specs.Bearing.{AreBounds, AreWithin, Bears, BearsTo, StaysWithin, acts_in}
+use Rattle.au_caps_laws.specs.Laws.{CallsBearWithin, IsRootAlone, RunBearsWithin, RunsBearWithin, no_root, the_root}
+use Rattle.au_caps_laws.proofs.BearLemmas.{FoundBears, Keeps, and_keeps, asks_keeps, bears_out, bears_same, bears_spends, does_keeps}
+use Rattle.au_caps_laws.proofs.BearLemmas.{needing_keeps, over_keeps, pure_keeps, stuck_keeps, takes_keeps, then_keeps}
+use Rattle.au_caps_laws.proofs.BearLemmas.{tick_keeps, where_keeps}
+use Rattle.au_caps_laws.proofs.EvalLemmas as eval
+use Rattle.au_caps_laws.proofs.EvalLemmas.{Stay, chosen_keeps, closed_keeps, closing_keeps, eval_keeps, leads, left_stay}
+use Rattle.au_caps_laws.proofs.EvalLemmas.{lends_keeps, reaches_keeps, right_stay, value_keeps, whole_keeps}
+use Rattle.au_caps_laws.proofs.ShipLemmas.{apart_bears, exchanged_bears, put_bears}
 
 module _ (P : ClosedType → Type 0) where
   -- ---- the world

@@ -1,4 +1,0 @@
-pub mod BearLemmas
-pub mod ShipLemmas
-pub mod EvalLemmas
-pub mod RunLemmas
