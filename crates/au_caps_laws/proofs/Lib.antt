@@ -1,0 +1,17 @@
+pub mod BearLemmas
+pub mod ShipLemmas
+pub mod EvalLemmas
+pub mod RunLemmas
+pub mod CalledLemmas
+pub mod RunForLemmas
+pub mod BoundLemmas
+pub mod NamedLemmas
+pub mod DefinedLemmas
+pub mod TargetLemmas
+pub mod SignedLemmas
+pub mod HomeLemmas
+pub mod InstanceLemmas
+pub mod PrimLemmas
+pub mod KnowsLemmas
+pub mod ReportLemmas
+pub mod AcceptedLemmas

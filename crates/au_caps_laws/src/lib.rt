@@ -1,0 +1,5 @@
+//! What may be born while a function runs, by what the calls in its text do. The crate holds definitions, in
+//! `specs/`, and laws about them.
+#![tactic(auto)]
+
+pub mod laws;
