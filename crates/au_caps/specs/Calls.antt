@@ -23,9 +23,9 @@ use Rattle.au_typing.specs.Written.{seen_at}
 use Rattle.au_closed_trees.specs.Calls.{calls_in_block}
 use Rattle.au_caps_lists.specs.Bodies.{Bodied}
 
--- What a call leads to: a value of a declared type is born; the function of a name in the module at a place;
--- the method of a name of all instances of a class; the methods of the instance of a class whose head has this
--- constructor; the methods of all instances of a class.
+-- What a call leads to: a value of a declared type is born; the function of a name in the module at a
+-- place; the method of a name of all instances of a class; the methods of the instance of a class whose
+-- head has this constructor; the methods of all instances of a class.
 pub data Callee : Type 0 where
   a_birth : DeclAt → Callee
   a_function : ℕ → Bytes → Callee

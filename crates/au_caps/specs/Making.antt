@@ -74,8 +74,8 @@ module _ (program : List ModuleParts) where
     the_class : (b : Bodied) (class : DeclAt) → class_of b ≡ Some class → StandsFor (a_class class) b
 
 module _ (program : List ModuleParts) (noted : List NotedParts) where
-  -- A call of what a callee is may make a capability: it is the birth of one; or it stands for a body in which
-  -- a call may; or it is an instance of which a constraint names a class of which an instance may.
+  -- A call of what a callee is may make a capability: it is the birth of one; or it stands for a body in
+  -- which a call may; or it is an instance of which a constraint names a class of which an instance may.
   pub data Makes : Callee → Bytes → Type 0 where
     born : (at : DeclAt) (h : Bytes) → head_of program at ≡ Some h → Makes (a_birth at) h
     called : (c d : Callee) (b : Bodied) (h : Bytes) → Contains (all_bodied noted) b → StandsFor program c b

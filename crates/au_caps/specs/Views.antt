@@ -53,7 +53,8 @@ pub record Grows (arcs : List (Node × Node)) (pairs : List (ℕ × ℕ)) (old n
   pub edges : (all : List (Node × Node)) → HoldsArcs old all → HoldsArcs new (all ++ arcs)
   pub births : new.births.items ≡ old.births.items ++ pairs
 
--- What is held is that of bodies, of so many: arcs between them by numbers, and who gives birth to which head.
+-- What is held is that of bodies, of so many: arcs between them by numbers, and who gives birth to which
+-- head.
 pub record IsWebOf (program : List ModuleParts) (r : Reaching) (many : ℕ) (bodies : List Bodied) (w : Web)
     : Type 0 where
   pub count : w.count ≡ many

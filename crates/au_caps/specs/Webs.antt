@@ -21,8 +21,8 @@ pub data Node : Type 0 where
   a_body : ℕ → Node
   a_callee : Callee → Node
 
--- The number of a node, where there are so many bodies and these keys: bodies come first, and then the keys of
--- callees.
+-- The number of a node, where there are so many bodies and these keys: bodies come first, and then the keys
+-- of callees.
 abbrev pub IsNumber : ℕ → List (List ℕ) → Node → ℕ → Type 0
 IsNumber count keys (a_body i) n = (n ≡ i) × (i < count)
 IsNumber count keys (a_callee c) n = (k : ℕ) × (n ≡ count + k) × (slice_get keys k ≡ Some (key_of c))
@@ -57,8 +57,8 @@ instance_arcs i class (Some one) others =
 abbrev pub function_arcs : ℕ → Bodied → List (Node × Node)
 function_arcs i b = (a_callee (a_function b.place b.header.name.name), a_body i) ∷ []
 
--- what stands for a method of an instance of a class leads to it, where the instance has a constructor, if its
--- type has one, and its constraints name other classes
+-- what stands for a method of an instance of a class leads to it, where the instance has a constructor, if
+-- its type has one, and its constraints name other classes
 abbrev pub method_arcs : ℕ → Bodied → Option DeclAt → Option Constructor → List DeclAt → List (Node × Node)
 method_arcs i b None one others = []
 method_arcs i b (Some class) one others =

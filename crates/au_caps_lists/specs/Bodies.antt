@@ -18,9 +18,9 @@ pub record Home : Type 0 where
   pub class : Bytes
   pub of : WrittenType
 
--- A function or method with its body, in the body of a module: the place of the module, the instance that it is
--- a method of, if it is one, its type parameters, which a method has of its instance, what is written before its
--- body, and its block.
+-- A function or method with its body, in the body of a module: the place of the module, the instance that
+-- it is a method of, if it is one, its type parameters, which a method has of its instance, what is written
+-- before its body, and its block.
 pub record Bodied : Type 0 where
   pub place : ℕ
   pub home : Option Home

@@ -61,8 +61,8 @@ named_mention no_arguments = []
 named_mention (arguments label e rest) = mentions (type_of e) ++ named_mention rest
 
 abbrev mutual
-  -- what stands in the noted types of the arguments of the calls in an expression, those of constructors among
-  -- them
+  -- what stands in the noted types of the arguments of the calls in an expression, those of constructors
+  -- among them
   pub handed_in : NotedExpression → List Mention
   handed_in (call n f es c) = types_mention es ++ handed_in_all es
   handed_in (named_call n f es c) = named_mention es ++ handed_in_arguments es

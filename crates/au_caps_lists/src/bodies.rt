@@ -139,8 +139,8 @@ fn push_file<'a>(
     }
 }
 
-/// The functions and methods of modules that have bodies: modules by their places, and each in the order of the
-/// text.
+/// The functions and methods of modules that have bodies: modules by their places, and each in the order of
+/// the text.
 ///
 /// # Errors
 ///

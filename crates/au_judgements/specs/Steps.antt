@@ -1,5 +1,6 @@
 -- Steps of the judgements of single statements, each with a name of its own.
-use Rattle.std.specs.Prelude.{◌==◌, ◌&&◌, List, [], ◌∷◌, map, Bool, false, is_some, Option, Some, None, Ok, Err}
+use Rattle.std.specs.Prelude.{◌==◌, ◌&&◌, List, [], ◌∷◌, map, Bool, false, is_some, Option, Some, None, Ok}
+use Rattle.std.specs.Prelude.{Err}
 use Rattle.std.specs.List.{count_by, find, list_all}
 use Rattle.au_syntax.specs.declared.expressions.BorrowMode.{BorrowMode}
 use Rattle.au_syntax.specs.declared.types.Access.{Access}
@@ -12,8 +13,8 @@ use Rattle.au_types.specs.Types.{Meaning}
 use Rattle.au_judged_types.specs.Judging.{refers}
 use Rattle.au_typing.specs.InScope.{with_typed}
 use Rattle.au_typing.specs.Parts.{ArmHead, borrow_type, case_meant}
-use Rattle.au_typing.specs.DerivationSearch.{free_place, is_of_borrow, judge_binds, judge_bound, judge_reference}
-use Rattle.au_typing.specs.DerivationSearch.{place_type, written_through}
+use Rattle.au_typing.specs.DerivationSearch.{free_place, is_of_borrow, judge_binds, judge_bound}
+use Rattle.au_typing.specs.DerivationSearch.{judge_reference, place_type, written_through}
 use Rattle.au_imports.specs.Clashing.{same_target}
 use Rattle.au_names.specs.Importing.{given_name}
 use Rattle.au_names.specs.declared.targets.Target.{Target}

@@ -1,8 +1,8 @@
 //! The arms of a case.
 //!
-//! What the name of an arm means is asked once for each arm. Whether each case has exactly one arm is then counted
-//! case by case without the table of names: cases times arms, where a union has at most 256 cases (a greater one
-//! is refused where programs are gathered).
+//! What the name of an arm means is asked once for each arm. Whether each case has exactly one arm is then
+//! counted case by case without the table of names: cases times arms, where a union has at most 256 cases
+//! (a greater one is refused where programs are gathered).
 
 ghost use Rattle.std.specs.Prelude.{◌≡◌, IfOk, map};
 ghost use Rattle.std.specs.List.{count_by};

@@ -20,9 +20,8 @@ use Rattle.au_program_lives.specs.Lines.{linear_text}
 use Rattle.au_rules.specs.declared.faults.DeclFault.{DeclFault}
 use Rattle.au_rules.specs.declared.faults.DeclFault.TheVariants as rules
 use Rattle.au_outcomes.specs.declared.refusals.Refusal.{Refusal}
-use Rattle.au_outcomes.specs.declared.refusals.Refusal.TheVariants.{Byte, Syntax}
-use Rattle.au_outcomes.specs.declared.refusals.Refusal.TheVariants.{Pair, Import, Declaration, Instance}
-use Rattle.au_outcomes.specs.declared.refusals.Refusal.TheVariants.{Typing, Linear, Entry}
+use Rattle.au_outcomes.specs.declared.refusals.Refusal.TheVariants.{Byte, Syntax, Pair, Import, Declaration}
+use Rattle.au_outcomes.specs.declared.refusals.Refusal.TheVariants.{Instance, Typing, Linear, Entry}
 
 -- each line ends with a newline
 abbrev pub line : List ℕ → List ℕ

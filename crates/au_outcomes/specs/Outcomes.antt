@@ -59,8 +59,8 @@ most_files = 128
 abbrev pub files_limit : ℕ → Limit
 files_limit count = record { kind = kind.Files; count = count; most = most_files }
 
--- What a program comes to that is judged, by the bytes of its files: the first file that can't be read counts, and
--- where each is read, what the modules come to.
+-- What a program comes to that is judged, by the bytes of its files: the first file that can't be read
+-- counts, and where each is read, what the modules come to.
 abbrev pub JudgedCome : Aim → List (List ℕ) → Outcome → Type 0
 JudgedCome aim all arisen =
     FirstHalts 0 all arisen ⊎ ((reads : List ReadFile) × AreRead 0 all reads × ReadsCome aim reads arisen)
@@ -108,8 +108,8 @@ Comes aim files names arisen =
     ((most_files < length names) × (arisen ≡ outcome.Passes (files_limit (length names))))
     ⊎ ((length names ≤ most_files) × FewCome aim files names arisen)
 
--- Files of these names can be had and are as few as they may be, each is cut into tokens that are the words of
--- its tree, within the limits, and their layouts are this text.
+-- Files of these names can be had and are as few as they may be, each is cut into tokens that are the words
+-- of its tree, within the limits, and their layouts are this text.
 abbrev pub HasLayout : Files → List (List ℕ) → List ℕ → Type 0
 HasLayout files names text =
     (length names ≤ most_files) × (all : List (List ℕ)) × AreFiles files names all

@@ -119,8 +119,8 @@ abbrev pub CompileComes : List ReadFile → Outcome → Type 0
 CompileComes reads (outcome.Compiles program) = slots.modules program ≡ program_modules reads
 CompileComes reads other = ⊥
 
--- What an accepted program comes to that is asked what it can do with capabilities: the rules of typing derive
--- its modules with some notes, and it comes to the report of the program with these.
+-- What an accepted program comes to that is asked what it can do with capabilities: the rules of typing
+-- derive its modules with some notes, and it comes to the report of the program with these.
 abbrev pub ReportComes : List ModuleParts → Outcome → Type 0
 ReportComes program (outcome.Reported report) =
     (noted : List NotedParts) × IsDerived program noted × IsReportOf program noted report
@@ -135,9 +135,9 @@ abbrev pub read_lives : List ReadFile → Lives
 read_lives reads = program_lives (program_modules reads)
 
 -- What accepted files come to: where no more is asked they are accepted, where they are explained they come
--- to the lives of their variables, where it is asked what they can do with capabilities they come to the report
--- on that, and where their program is to run or to be compiled that is what they come to. (Of files that are
--- laid out it isn't asked whether they are accepted.)
+-- to the lives of their variables, where it is asked what they can do with capabilities they come to the
+-- report on that, and where their program is to run or to be compiled that is what they come to. (Of files
+-- that are laid out it isn't asked whether they are accepted.)
 abbrev pub AcceptedCome : Aim → List ReadFile → Outcome → Type 0
 AcceptedCome aims.Run reads arisen = RunComes reads arisen
 AcceptedCome aims.Compile reads arisen = CompileComes reads arisen

@@ -26,9 +26,9 @@ HasTree tokens = (m : PlainModule) × IsTrue (formed_module m) × Spells m token
 abbrev pub HasNoTree : List Token → Type 0
 HasNoTree tokens = (m : PlainModule) → IsTrue (formed_module m) → Spells m tokens → ⊥
 
--- Some file begins with the tokens through one of these, and passes this limit first, with that token. There is one such
--- limit at most, at one token, whatever stands behind it: a law of `au_parser`. And whatever tree has these words passes
--- it.
+-- Some file begins with the tokens through one of these, and passes this limit first, with that token.
+-- There is one such limit at most, at one token, whatever stands behind it: a law of `au_parser`. And
+-- whatever tree has these words passes it.
 abbrev pub TreesPass : List Token → Limit → Type 0
 TreesPass tokens limit =
     IsPassed usual tokens limit
@@ -38,8 +38,8 @@ TreesPass tokens limit =
 abbrev pub place_or : Pos → List Token → ℕ → Pos
 place_or end tokens index = unwrap_or (option_map (λ (token : Token). token.at) (slice_get tokens index)) end
 
--- The place of the first token that no file has behind those before it, or the end where the file ends too early;
--- and no limit is passed.
+-- The place of the first token that no file has behind those before it, or the end where the file ends too
+-- early; and no limit is passed.
 abbrev pub IsPlaceIn : List Token → Pos → Pos → Type 0
 IsPlaceIn tokens end at =
     (place : ℕ) × IsFaultPlace tokens place × PassesNone usual tokens × (at ≡ place_or end tokens place)

@@ -88,8 +88,9 @@ fn with_shipped(alloc: Global, own: Vec<FileTree>) -> Result<Vec<FileTree>, Memo
 }
 
 /// What accepted files come to whose program is this: where no more is asked they are accepted, where they
-/// are explained they come to the lives of their variables, where their capabilities are asked for they come to
-/// the report on these, and where their program is to run or to be compiled that is what they come to.
+/// are explained they come to the lives of their variables, where their capabilities are asked for they
+/// come to the report on these, and where their program is to run or to be compiled that is what they come
+/// to.
 pub fn accepted_outcome(alloc: Global, aim: Aim, noted: NotedProgram) -> Result<Outcome, Halt>
     ensures comes { (reads : List ReadFile) → slots.modules noted ≡ program_modules reads
         → Says result (AcceptedCome aim reads) (AcceptedCome aim reads) }
@@ -117,7 +118,8 @@ fn explained(alloc: Global, noted: &NotedProgram) -> Result<Outcome, Halt>
 
 /// What the functions of an accepted program can do with capabilities.
 fn reported(alloc: Global, noted: &NotedProgram) -> Result<Outcome, Halt>
-    ensures comes { Says result (ReportComes (slots.modules noted.now)) (ReportComes (slots.modules noted.now)) }
+    ensures comes { Says result (ReportComes (slots.modules noted.now))
+        (ReportComes (slots.modules noted.now)) }
     ensures is_read { is_read_halt result ≡ false }
 {
     let report = caps_report(alloc, noted)?;

@@ -11,11 +11,11 @@ ghost use Rattle.au_outcomes.specs.declared.outcomes.Aim.TheVariants as aims;
 ghost use Rattle.au_outcomes.specs.declared.outcomes.Outcome.{Outcome};
 ghost use Rattle.au_outcomes.specs.declared.outcomes.Outcome.TheVariants as outcome;
 
-/// Whatever is asked of files that are judged, they come to something behind the steps that judge whether they
-/// are accepted exactly where they are; and then they come to what is asked: that they are accepted, or the
-/// lives of their variables, or the report on what they can do with capabilities, or that their program is to
-/// run or to be compiled. Files that are to be laid out come to their layout exactly where they can be had and
-/// read.
+/// Whatever is asked of files that are judged, they come to something behind the steps that judge whether
+/// they are accepted exactly where they are; and then they come to what is asked: that they are accepted,
+/// or the lives of their variables, or the report on what they can do with capabilities, or that their
+/// program is to run or to be compiled. Files that are to be laid out come to their layout exactly where
+/// they can be had and read.
 pub fn accepted_files_come_to_what_is_asked()
     ensures behind { (aim : Aim) (files : Files) (names : List (List ℕ)) (arisen : Outcome)
         → IsTrue (judges aim) → Comes aim files names arisen

@@ -16,8 +16,8 @@ pub record BeginsFile (tokens : List Token) : Type 0 where
   pub rest : List Token
   pub file : IsFile (tokens ++ rest)
 
--- The place of a fault, by the words of the grammar: the tokens before it begin some file, and those through it begin
--- none; and where no token is left, they are no file yet.
+-- The place of a fault, by the words of the grammar: the tokens before it begin some file, and those
+-- through it begin none; and where no token is left, they are no file yet.
 pub record IsFaultPlace (tokens : List Token) (place : ℕ) : Type 0 where
   pub within : place ≤ length tokens
   pub before : BeginsFile (take place tokens)

@@ -1,23 +1,27 @@
--- What the words of a file tell of its limits, one after another: each word of a tree with what is known with it of how
--- deeply the tree is nested, how deep its types are, how many nodes they have, and how long its modules' names are.
+-- What the words of a file tell of its limits, one after another: each word of a tree with what is known
+-- with it of how deeply the tree is nested, how deep its types are, how many nodes they have, and how long
+-- its modules' names are.
 use Rattle.std.specs.Prelude.{ℕ, zero, suc, ◌+◌, Bool, true, false, List, [], ◌∷◌, ◌++◌, map, length}
 use Rattle.std.specs.List.{flat_map}
 use Rattle.au_base.specs.declared.places.Pos.{Pos}
-use Rattle.au_base.specs.declared.tokens.Keyword.TheVariants.{KwIs, KwEnd, KwImport, KwConstant}
-use Rattle.au_base.specs.declared.tokens.Keyword.TheVariants.{KwType, KwRecord, KwUnion, KwCase, KwWhen, KwOf, KwDo}
-use Rattle.au_base.specs.declared.tokens.Keyword.TheVariants.{KwFunction, KwTypeclass, KwInstance, KwMethod, KwLet}
-use Rattle.au_base.specs.declared.tokens.Keyword.TheVariants.{KwIf, KwThen, KwElse, KwWhile, KwFor, KwFrom, KwTo}
-use Rattle.au_base.specs.declared.tokens.Keyword.TheVariants.{KwBorrow, KwIn, KwAs, KwReturn, KwSkip, KwNil, KwNot}
+use Rattle.au_base.specs.declared.tokens.Keyword.TheVariants.{KwIs, KwEnd, KwImport, KwConstant, KwType}
+use Rattle.au_base.specs.declared.tokens.Keyword.TheVariants.{KwRecord, KwUnion, KwCase, KwWhen, KwOf, KwDo}
+use Rattle.au_base.specs.declared.tokens.Keyword.TheVariants.{KwFunction, KwTypeclass, KwInstance, KwMethod}
+use Rattle.au_base.specs.declared.tokens.Keyword.TheVariants.{KwLet, KwIf, KwThen, KwElse, KwWhile, KwFor}
+use Rattle.au_base.specs.declared.tokens.Keyword.TheVariants.{KwFrom, KwTo, KwBorrow, KwIn, KwAs, KwReturn}
+use Rattle.au_base.specs.declared.tokens.Keyword.TheVariants.{KwSkip, KwNil, KwNot}
 use Rattle.au_base.specs.declared.tokens.Sign.{Sign as SignOf}
-use Rattle.au_base.specs.declared.tokens.Sign.TheVariants.{Assign, FatArrow, LeftParenthesis, RightParenthesis}
-use Rattle.au_base.specs.declared.tokens.Sign.TheVariants.{LeftBracket, RightBracket, LeftBrace, RightBrace, Comma}
-use Rattle.au_base.specs.declared.tokens.Sign.TheVariants.{Semicolon, Colon, Dot, ReadBorrow, Exclamation, Minus}
+use Rattle.au_base.specs.declared.tokens.Sign.TheVariants.{Assign, FatArrow, LeftParenthesis}
+use Rattle.au_base.specs.declared.tokens.Sign.TheVariants.{RightParenthesis, LeftBracket, RightBracket}
+use Rattle.au_base.specs.declared.tokens.Sign.TheVariants.{LeftBrace, RightBrace, Comma, Semicolon, Colon}
+use Rattle.au_base.specs.declared.tokens.Sign.TheVariants.{Dot, ReadBorrow, Exclamation, Minus}
 use Rattle.au_base.specs.declared.tokens.What.TheVariants.{Text}
 use Rattle.au_read_expressions.specs.TypeStops.{is_name}
 use Rattle.au_syntax.specs.declared.declarations.Universe.{Universe}
 use Rattle.au_syntax.specs.Depths.{expression_depth}
 use Rattle.au_syntax.specs.Names.{Placed}
-use Rattle.au_syntax.specs.Types.{WrittenType, WrittenTypes, named, reference, no_types, types, Labelled, Bound}
+use Rattle.au_syntax.specs.Types.{WrittenType, WrittenTypes, named, reference, no_types, types, Labelled}
+use Rattle.au_syntax.specs.Types.{Bound}
 use Rattle.au_syntax.specs.Expressions.{number, negative, text, truth, nil, path, arrow, call, named_call}
 use Rattle.au_syntax.specs.Expressions.{parenthesized, dereference, borrow, borrow_part, binary, negation}
 use Rattle.au_syntax.specs.Expressions.{typed, choice, no_expressions, expressions, no_arguments, arguments}
@@ -32,13 +36,13 @@ use Rattle.au_syntax.specs.Plain.{Bytes, PlainExpression, PlainExpressions, Plai
 use Rattle.au_syntax.specs.Plain.{PlainStatements, PlainBranches, PlainArms, PlainMethod, PlainDeclaration}
 use Rattle.au_syntax.specs.Plain.{PlainModule}
 use Rattle.au_syntax.specs.Words.{Printed, Words, word, mark, name_words, literal_words, renaming_words}
-use Rattle.au_syntax.specs.Words.{access_sign, path_words, arrow_words, mode_sign, operator_words, truth_words}
-use Rattle.au_syntax.specs.Words.{binding_word, borrow_words, end_at, universe_word, in_universe_words}
-use Rattle.au_syntax.specs.Words.{generic_words, part_words, pragma_words}
+use Rattle.au_syntax.specs.Words.{access_sign, path_words, arrow_words, mode_sign, operator_words}
+use Rattle.au_syntax.specs.Words.{truth_words, binding_word, borrow_words, end_at, universe_word}
+use Rattle.au_syntax.specs.Words.{in_universe_words, generic_words, part_words, pragma_words}
 
--- A word, with what is known with it: the level of the expression or statement that is nested most deeply (0 where
--- the word tells of none), the depth of the type that begins with it, the nodes of the written type up to it and the
--- words of the type before it, and the bytes of the module's name up to it.
+-- A word, with what is known with it: the level of the expression or statement that is nested most deeply
+-- (0 where the word tells of none), the depth of the type that begins with it, the nodes of the written
+-- type up to it and the words of the type before it, and the bytes of the module's name up to it.
 pub record Measured : Type 0 where
   pub word : Printed
   pub level : ℕ
@@ -149,7 +153,8 @@ abbrev pub known_behind : Bool → Measured → Measures → Measures
 known_behind true w ws = unknown w ∷ rooted ws
 known_behind false w ws = w ∷ ws
 
--- where a name begins, the name of a parameter may stand there: that an expression begins is known with the next word
+-- where a name begins, the name of a parameter may stand there: that an expression begins is known with the
+-- next word
 abbrev pub known_late : Measures → Measures
 known_late [] = []
 known_late (w ∷ ws) = known_behind (is_name w.word.what) w ws
@@ -195,7 +200,8 @@ begins_type (w ∷ ws) =
 -- the name of a region, which is a node too
 abbrev pub region_words : Placed Bytes → Measures
 region_words name =
-    map (λ (w : Printed). record { word = w; level = 0; depth = 0; nodes = 1; bytes = 0; before = 0 }) (name_words name)
+    map (λ (w : Printed). record { word = w; level = 0; depth = 0; nodes = 1; bytes = 0; before = 0 })
+    (name_words name)
 
 abbrev mutual
   -- a type, each node by itself
@@ -255,12 +261,14 @@ abbrev mutual
   pub expression_measures : PlainExpression → Measures
   expression_measures (number site literal) = node site.at (plains (literal_words literal))
   expression_measures (negative site literal) = node site.at (plains (mark Minus ++ literal_words literal))
-  expression_measures (text site bytes) = node site.at (plains (record { what = Text bytes; places = [] } ∷ []))
+  expression_measures (text site bytes) =
+      node site.at (plains (record { what = Text bytes; places = [] } ∷ []))
   expression_measures (truth site value) = node site.at (plains (truth_words value))
   expression_measures (nil site) = node site.at (plains (word KwNil))
   expression_measures (path site name fields) = node site.at (plains (path_words name fields))
   expression_measures (arrow site name fields) = node site.at (plains (arrow_words name fields))
-  expression_measures (call site name args note) = node site.at (call_words name (given_in_order (given_measures args)))
+  expression_measures (call site name args note) =
+      node site.at (call_words name (given_in_order (given_measures args)))
   expression_measures (named_call site name args note) =
       node site.at (call_words name (through_arguments (labels_measures args)))
   expression_measures (parenthesized site e) =
@@ -268,7 +276,8 @@ abbrev mutual
       ++ plains (mark RightParenthesis)))
   expression_measures (dereference site e) =
       node site.at (plains (mark Exclamation) ++ inside (expression_measures e))
-  expression_measures (borrow site mode name) = node site.at (plains (mark (mode_sign mode) ++ name_words name))
+  expression_measures (borrow site mode name) =
+      node site.at (plains (mark (mode_sign mode) ++ name_words name))
   expression_measures (borrow_part site name fields) =
       node site.at (plains (mark ReadBorrow ++ mark LeftParenthesis) ++ (plains (arrow_words name fields)
       ++ plains (mark RightParenthesis)))
@@ -296,7 +305,8 @@ abbrev mutual
 
 -- a call that is a statement
 abbrev pub call_measures : PlainExpression → Measures
-call_measures (call site name args note) = begun site.at (call_words name (given_in_order (given_measures args)))
+call_measures (call site name args note) =
+    begun site.at (call_words name (given_in_order (given_measures args)))
 call_measures (named_call site name args note) =
     begun site.at (call_words name (through_arguments (labels_measures args)))
 call_measures other = expression_measures other
@@ -309,10 +319,12 @@ abbrev mutual
   statement_measures (skip at) = node at (plains (word KwSkip ++ mark Semicolon))
   statement_measures (declare at binding name t e) =
       node at (plains (word (binding_word binding)) ++ (plains (name_words name) ++ (plains (mark Colon)
-      ++ (written t ++ (plains (mark Assign) ++ (inside (expression_measures e) ++ plains (mark Semicolon)))))))
+      ++ (written t ++ (plains (mark Assign) ++ (inside (expression_measures e)
+      ++ plains (mark Semicolon)))))))
   statement_measures (destructure at binds e) =
       node at (plains (word KwLet ++ mark LeftBrace) ++ (listed (map bound_measures binds)
-      ++ (plains (mark RightBrace ++ mark Assign) ++ (inside (expression_measures e) ++ plains (mark Semicolon)))))
+      ++ (plains (mark RightBrace ++ mark Assign) ++ (inside (expression_measures e)
+      ++ plains (mark Semicolon)))))
   statement_measures (assign at name fields e) =
       node at (plains (path_words name fields) ++ (plains (mark Assign)
       ++ (inside (expression_measures e) ++ plains (mark Semicolon))))
@@ -381,7 +393,8 @@ head_measures name parameters universe =
 -- a function's name, parameters and result
 abbrev pub header_measures : Header Bytes → Measures
 header_measures h =
-    plains (name_words h.name) ++ (plains (mark LeftParenthesis) ++ (listed (map labelled_measures h.parameters)
+    plains (name_words h.name) ++ (plains (mark LeftParenthesis)
+    ++ (listed (map labelled_measures h.parameters)
     ++ (plains (mark RightParenthesis ++ mark Colon) ++ written h.result)))
 
 -- the fields of a record or a case
@@ -447,7 +460,8 @@ declaration_measures (instance_body at generics name t methods) =
 
 -- words that tell of so many bytes
 abbrev pub at_bytes : ℕ → Words → Measures
-at_bytes n ws = map (λ (w : Printed). record { word = w; level = 0; depth = 0; nodes = 0; bytes = n; before = 0 }) ws
+at_bytes n ws =
+    map (λ (w : Printed). record { word = w; level = 0; depth = 0; nodes = 0; bytes = n; before = 0 }) ws
 
 -- a module's name, where so many bytes of it stand before
 abbrev pub module_name_measures : ℕ → List (Placed Bytes) → Measures

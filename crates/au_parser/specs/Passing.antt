@@ -21,7 +21,8 @@ pub data Excess : Type 0 where
 abbrev pub passed_by : Bounds → ℕ → Measured → Option Excess
 passed_by b levels w =
     cond (nat_le w.level levels) (cond (nat_le w.depth b.depth) (cond (nat_le w.nodes b.nodes)
-    (cond (nat_le w.bytes b.bytes) None (Some of_bytes)) (Some (of_nodes w.before))) (Some of_depth)) (Some of_nesting)
+    (cond (nat_le w.bytes b.bytes) None (Some of_bytes)) (Some (of_nodes w.before))) (Some of_depth))
+    (Some of_nesting)
 
 -- what a word passes, if it passes something
 abbrev pub Passes : Type 0
@@ -47,7 +48,8 @@ PassBehind p what (t ∷ ts) (w ∷ ws) = (p w ≡ None) × PassBehind p what ts
 -- the same of each limit is known with these words
 abbrev pub SameMeasure : Measured → Measured → Type 0
 SameMeasure w v =
-    (w.level ≡ v.level) × ((w.depth ≡ v.depth) × ((w.nodes ≡ v.nodes) × ((w.bytes ≡ v.bytes) × (w.before ≡ v.before))))
+    (w.level ≡ v.level) × ((w.depth ≡ v.depth) × ((w.nodes ≡ v.nodes)
+    × ((w.bytes ≡ v.bytes) × (w.before ≡ v.before))))
 
 -- the same is known with each of these tokens
 abbrev pub Agree : List Token → Measures → Measures → Type 0
@@ -56,8 +58,8 @@ Agree (t ∷ ts) [] c = ⊥
 Agree (t ∷ ts) (w ∷ a) [] = ⊥
 Agree (t ∷ ts) (w ∷ a) (v ∷ c) = SameMeasure w v × Agree ts a c
 
--- That of nodes is told with how many the type has, as far as the tokens go. These stand in front of the word that
--- passes it, so many of them in the type, and those from that word on.
+-- That of nodes is told with how many the type has, as far as the tokens go. These stand in front of the
+-- word that passes it, so many of them in the type, and those from that word on.
 pub record TellsNodes (b : Bounds) (before : ℕ) (front back : List Token) (l : Limit) : Type 0 where
   pub others : List Token
   pub begun : List Token
@@ -83,8 +85,8 @@ module _ (b : Bounds) where
     pub spelled : Spells tree (tokens ++ rest)
     pub keeps : KeepOver (passed_by b b.nesting) tokens (measures tree)
 
-  -- some file begins with the tokens through this place, and passes a limit first, with the token there, of which this
-  -- is told
+  -- some file begins with the tokens through this place, and passes a limit first, with the token there, of
+  -- which this is told
   pub record PassesAt (tokens : List Token) (place : ℕ) (l : Limit) : Type 0 where
     pub within : place < length tokens
     pub tree : PlainModule

@@ -17,5 +17,6 @@ pub record NodesOf (tokens : List Token) (count : ℕ) : Type 0 where
   pub back : List Token
   pub same : tokens ≡ front ++ back
   pub begins : BeginsType front
-  pub longest : (next : Token) (others : List Token) → back ≡ next ∷ others → BeginsType (front ++ next ∷ []) → ⊥
+  pub longest : (next : Token) (others : List Token) → back ≡ next ∷ others
+      → BeginsType (front ++ next ∷ []) → ⊥
   pub nodes : count ≡ nodes_in front

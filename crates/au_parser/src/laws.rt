@@ -43,9 +43,9 @@ pub fn words_measure_as_they_come()
         → IsTrue (formed_module u) → Spells u (p ++ d) → Agree p (measures m) (measures u) }
 {}
 
-/// Where the reader of files tells a limit, some file passes it first, with a token, and this is told of it.
-/// Where it stops with a fault, the tokens before begin some file and pass no limit in it. And a limit that some
-/// file passes first, with a token of these, is told.
+/// Where the reader of files tells a limit, some file passes it first, with a token, and this is told of
+/// it. Where it stops with a fault, the tokens before begin some file and pass no limit in it. And a limit
+/// that some file passes first, with a token of these, is told.
 pub fn limits_are_told()
     ensures passed { (b : Bounds) (tokens : List Token) (l : Limit) (left : ℕ)
         → file_at b tokens ≡ Err (Passed l left) → (at : ℕ) × PassesAt b tokens at l }

@@ -23,17 +23,17 @@ use std::alloc::Global;
 ///
 /// # Errors
 ///
-/// `ParseFault::Syntax` where no tree has these words: the index is that of the first token with which no file
-/// goes on, or the number of tokens where they end too early. `ParseFault::Limit` where some file that begins
-/// with tokens before that one passes this limit, with one of these: if a tree has these words, it passes the
-/// limit, but what is behind may be no tree. `ParseFault::Memory` where no memory was found, in place of any
-/// other answer.
+/// `ParseFault::Syntax` where no tree has these words: the index is that of the first token with which no
+/// file goes on, or the number of tokens where they end too early. `ParseFault::Limit` where some file that
+/// begins with tokens before that one passes this limit, with one of these: if a tree has these words, it
+/// passes the limit, but what is behind may be no tree. `ParseFault::Memory` where no memory was found, in
+/// place of any other answer.
 pub fn parse(alloc: Global, tokens: &[Token]) -> Result<Whole<Parsed>, ParseFault>
     requires fewer { length tokens.now < 4294967296 }
     // What is read is spelled so.
     ensures tree { IfOk result (λ whole. Spells (says ⟦<Parsed as Phase>⟧ whole.tree) tokens.now) }
-    // The tokens before the index begin some file, those through it begin none, and where no token is left they
-    // are no file, however large; and they pass no limit.
+    // The tokens before the index begin some file, those through it begin none, and where no token is left
+    // they are no file, however large; and they pass no limit.
     ensures syntax { (index : ℕ) → result ≡ Err (ParseFault.Syntax index)
         → IsFaultPlace tokens.now index × PassesNone usual tokens.now }
     // This limit is passed first, and a tree that has these words passes it.

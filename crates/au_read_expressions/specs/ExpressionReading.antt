@@ -28,10 +28,9 @@ use Rattle.au_syntax.specs.Names.{Placed}
 use Rattle.au_syntax.specs.Plain.{Bytes, PlainExpression, PlainExpressions, PlainArguments}
 use Rattle.au_read_expressions.specs.declared.faults.Fault.TheVariants.{Passed}
 use Rattle.au_read_expressions.specs.Bounds.{Bounds, nesting_limit}
-use Rattle.au_read_expressions.specs.Reading.{Read, ◌>>=◌, front, place_of, begins_with, no, name_at, number_at}
-use Rattle.au_read_expressions.specs.Reading.{text_at, exactly, behind_tokens, closed, pair}
-use Rattle.au_read_expressions.specs.Reading.{shaped, built, listed, dotted_at}
-use Rattle.au_read_expressions.specs.Reading.{fields_at}
+use Rattle.au_read_expressions.specs.Reading.{Read, ◌>>=◌, front, place_of, begins_with, no, name_at}
+use Rattle.au_read_expressions.specs.Reading.{number_at, text_at, exactly, behind_tokens, closed, pair}
+use Rattle.au_read_expressions.specs.Reading.{shaped, built, listed, dotted_at, fields_at}
 use Rattle.au_read_expressions.specs.TypeReading.{type_at}
 
 -- the place of an expression, without a note
@@ -184,8 +183,8 @@ module _ (inner inner_atom : List Token → Read PlainExpression) where
   abbrev pub ordered : List Token → Read Given
   ordered = shaped in_order (closed (Sign RightParenthesis ∷ []) (listed inner))
 
-  -- The arguments of a call behind its parenthesis: the next one or two tokens tell which. That a name begins an
-  -- expression, and isn't that of a parameter, is known with the token behind it.
+  -- The arguments of a call behind its parenthesis: the next one or two tokens tell which. That a name
+  -- begins an expression, and isn't that of a parameter, is known with the token behind it.
   abbrev pub given_by : Option What → Option What → List Token → Read Given
   given_by (Some (Sign RightParenthesis)) second tokens =
       shaped none_given (exactly (Sign RightParenthesis ∷ [])) tokens

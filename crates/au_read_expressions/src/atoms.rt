@@ -4,8 +4,8 @@ ghost use Rattle.std.specs.Prelude.{◌≡◌, ◌∷◌, [], true, false, map, 
 ghost use Rattle.au_base.specs.declared.tokens.Keyword.TheVariants as keyword;
 ghost use Rattle.au_base.specs.declared.tokens.Sign.TheVariants as sign;
 ghost use Rattle.au_base.specs.declared.tokens.What.TheVariants as what;
-ghost use Rattle.au_read_expressions.specs.Reading.{Gives, place_of, name_at, number_at, text_at, fields_at, exactly};
-ghost use Rattle.au_read_expressions.specs.Reading.{behind_tokens, closed, pair, built};
+ghost use Rattle.au_read_expressions.specs.Reading.{Gives, place_of, name_at, number_at, text_at, fields_at};
+ghost use Rattle.au_read_expressions.specs.Reading.{exactly, behind_tokens, closed, pair, built};
 ghost use Rattle.au_read_expressions.specs.ExpressionReading as spec;
 ghost use Rattle.au_syntax.specs.Views as views;
 

@@ -93,8 +93,8 @@ pub(crate) fn is_cut_short(tokens: &[Token]) -> bool
     }
 }
 
-/// Whether an expression that begins with a name, and is an argument, goes on with these tokens, or ends before
-/// them.
+/// Whether an expression that begins with a name, and is an argument, goes on with these tokens, or ends
+/// before them.
 fn goes_on(tokens: &[Token]) -> bool
     ensures { result ≡ spec.goes_on (front tokens.now) }
 {

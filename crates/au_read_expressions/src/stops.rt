@@ -59,7 +59,8 @@ fn begin(token: &What) -> Option<Awaits>
 /// The innermost that is open.
 fn innermost(within: &Vec<Within>) -> Option<Within>
     ensures { MatchOption result (within.now.items ≡ [])
-        (λ last. reverse within.now.items ≡ last ∷ reverse (take (length within.now.items - 1) within.now.items)) }
+        (λ last. reverse within.now.items ≡ last ∷
+        reverse (take (length within.now.items - 1) within.now.items)) }
 {
     match within.as_slice().split_last() {
         None => None,

@@ -2,7 +2,8 @@
 
 ghost use Rattle.std.specs.Prelude.{◌≡◌, drop, map, length, Some};
 ghost use Rattle.std.specs.Option.{option_map};
-ghost use Rattle.au_read_expressions.specs.Reading.{Gives, begins_with, expected_what, front, name_at, number_at};
+ghost use Rattle.au_read_expressions.specs.Reading.{Gives, begins_with, expected_what, front, name_at};
+ghost use Rattle.au_read_expressions.specs.Reading.{number_at};
 ghost use Rattle.au_read_expressions.specs.Reading.{place_of, same_what, text_at, token_at, tokens_at};
 ghost use Rattle.au_base.specs.declared.tokens.What.TheVariants as what;
 ghost use Rattle.au_syntax.specs.Views.{placed};

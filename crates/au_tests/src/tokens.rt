@@ -4,7 +4,7 @@ use au_lexer::{Token, What, lex};
 use std::test::Fail;
 
 /// Files that are cut, each with its tokens.
-const CUT: [(&[u8], &[u8]); 33] = [
+const CUT: [(&[u8], &[u8]); 38] = [
     (b"", b""),
     (b" \t\r\n", b""),
     // words, of which the longest counts
@@ -22,21 +22,38 @@ const CUT: [(&[u8], &[u8]); 33] = [
     ),
     // signs, of which the longest counts
     (
-        b":= => -> &! &~ /= <= >=",
-        b"1:1 sign :=|1:4 sign =>|1:7 sign ->|1:10 sign &!|1:13 sign &~|1:16 sign /=|1:19 sign <=|1:22 sign >=|",
+        b":= => -> &! &~",
+        b"1:1 sign :=|1:4 sign =>|1:7 sign ->|1:10 sign &!|1:13 sign &~|",
+    ),
+    (b"/= <= >=", b"1:1 sign /=|1:4 sign <=|1:7 sign >=|"),
+    (
+        b"()[]{},",
+        b"1:1 sign (|1:2 sign )|1:3 sign [|1:4 sign ]|1:5 sign {|1:6 sign }|1:7 sign ,|",
     ),
     (
-        b"()[]{},;:.!&+*=<>-/",
-        b"1:1 sign (|1:2 sign )|1:3 sign [|1:4 sign ]|1:5 sign {|1:6 sign }|1:7 sign ,|1:8 sign ;|1:9 sign :|1:10 sign .|1:11 sign !|1:12 sign &|1:13 sign +|1:14 sign *|1:15 sign =|1:16 sign <|1:17 sign >|1:18 sign -|1:19 sign /|",
+        b";:.!&+",
+        b"1:1 sign ;|1:2 sign :|1:3 sign .|1:4 sign !|1:5 sign &|1:6 sign +|",
     ),
     (
-        b"&&!<==>/==::=->->",
-        b"1:1 sign &|1:2 sign &!|1:4 sign <=|1:6 sign =>|1:8 sign /=|1:10 sign =|1:11 sign :|1:12 sign :=|1:14 sign ->|1:16 sign ->|",
+        b"*=<>-/",
+        b"1:1 sign *|1:2 sign =|1:3 sign <|1:4 sign >|1:5 sign -|1:6 sign /|",
+    ),
+    (
+        b"&&!<==>/=",
+        b"1:1 sign &|1:2 sign &!|1:4 sign <=|1:6 sign =>|1:8 sign /=|",
+    ),
+    (
+        b"=::=->->",
+        b"1:1 sign =|1:2 sign :|1:3 sign :=|1:5 sign ->|1:7 sign ->|",
     ),
     (b"x<-y", b"1:1 name x|1:2 sign <|1:3 sign -|1:4 name y|"),
     (
-        b"let x: T := f(y);",
-        b"1:1 word let|1:5 name x|1:6 sign :|1:8 name T|1:10 sign :=|1:13 name f|1:14 sign (|1:15 name y|1:16 sign )|1:17 sign ;|",
+        b"let x: T :=",
+        b"1:1 word let|1:5 name x|1:6 sign :|1:8 name T|1:10 sign :=|",
+    ),
+    (
+        b"f(y);",
+        b"1:1 name f|1:2 sign (|1:3 name y|1:4 sign )|1:5 sign ;|",
     ),
     // texts
     (b"\"\"", b"1:1 text |"),

@@ -207,7 +207,8 @@ HasSucceeded s names arisen =
     ⊎ (IsExplained s names arisen ⊎ (IsReported s names arisen ⊎ IsLaidOut s names arisen))
 
 -- The steps that judge whether files are accepted have refused nothing, and what came behind them was paid:
--- that they are accepted, or the lives of their variables, or the report on what they can do with capabilities.
+-- that they are accepted, or the lives of their variables, or the report on what they can do with
+-- capabilities.
 abbrev pub HasComeBehind : Call → List (List ℕ) → Outcome → Type 0
 HasComeBehind call names arisen = IsTrue (is_behind arisen) × IsSomeAnd (due_of names arisen) (HasPaid call)
 
@@ -305,8 +306,8 @@ PassesLimit call =
     HasOutcome call (HasPassed call.streams)
     ⊎ ((limit : Limit) × (ReportsRun call (how.Limit limit) ⊎ ReportsText call (Err (uncoded.Limit limit))))
 
--- Files are accepted or explained or reported on or laid out, or their program ran and returned success, or its
--- C text was written.
+-- Files are accepted or explained or reported on or laid out, or their program ran and returned success, or
+-- its C text was written.
 abbrev pub Succeeds : Call → Type 0
 Succeeds call =
     HasOutcome call (HasSucceeded call.streams)

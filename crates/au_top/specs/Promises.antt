@@ -10,12 +10,12 @@ use Rattle.au_low.specs.declared.code.Code.{Code}
 use Rattle.au_running.specs.Closed.{code_of}
 use Rattle.au_running.specs.declared.coding.Uncoded.{Uncoded}
 use Rattle.au_running.specs.declared.ran.Ran.TheVariants as how
-use Rattle.au_top.specs.Calls.{Aborts, Call, GoesBehind, HasPaid, HasProgram, IsDecided, IsDone}
-use Rattle.au_top.specs.Calls.{IsRefused, IsRunEnd, LacksMemory, LosesSink, LosesSource, MissesFile}
-use Rattle.au_top.specs.Calls.{PassesLimit, PaysReport, PaysText, ReportsRun, ShelfMissedNone, ShelfNeverFailed}
-use Rattle.au_top.specs.Calls.{Succeeds, Tells}
-use Rattle.au_top.specs.Dues.{AsksForTooMany, Due, IsAcceptedJob, IsCaps, IsCheck, IsCompile, IsExplain, IsRun}
-use Rattle.au_top.specs.Dues.{IsUnread, Owes, accepted_due, explained_due, laid_due}
+use Rattle.au_top.specs.Calls.{Aborts, Call, GoesBehind, HasPaid, HasProgram, IsDecided, IsDone, IsRefused}
+use Rattle.au_top.specs.Calls.{IsRunEnd, LacksMemory, LosesSink, LosesSource, MissesFile, PassesLimit}
+use Rattle.au_top.specs.Calls.{PaysReport, PaysText, ReportsRun, ShelfMissedNone, ShelfNeverFailed, Succeeds}
+use Rattle.au_top.specs.Calls.{Tells}
+use Rattle.au_top.specs.Dues.{AsksForTooMany, Due, IsAcceptedJob, IsCaps, IsCheck, IsCompile, IsExplain}
+use Rattle.au_top.specs.Dues.{IsRun, IsUnread, Owes, accepted_due, explained_due, laid_due}
 use Rattle.au_top.specs.Formatted.{HasLayoutOf, IsFormat}
 use Rattle.au_top.specs.Entered.{CanCompile, CanRun, IsToRun}
 use Rattle.au_top.specs.Runs.{EndsAsRun, Run}
@@ -139,8 +139,8 @@ pub record Promises (call : Call) : Type 0 where
   pub limit : call.status ≡ status.Limit → PassesLimit call
   pub missing_file : call.status ≡ status.Missing → MissesFile call
   -- 0 and 1 come by what the program returns, and 0 where it's checked and accepted, or where the lives of
-  -- its variables are told, or what it can do with capabilities, or its C text is written, or its file is laid
-  -- out.
+  -- its variables are told, or what it can do with capabilities, or its C text is written, or its file is
+  -- laid out.
   pub success : call.status ≡ status.Success → Succeeds call
   pub failure : call.status ≡ status.Failure → ReportsRun call (how.Exit false)
   -- 3 comes by an abort, whose cause its line tells, and 4 where the steps of the run were spent.

@@ -78,9 +78,9 @@ fn put_report<O: Sink>(alloc: Global, report: &Report, out: &mut O) -> Result<St
     }
 }
 
-/// Does what is due for an outcome: a line is written on `err`, or that the program is accepted or the lives
-/// of its variables or the layout of its file or the report on its capabilities on `out`, or the program is run
-/// or compiled.
+/// Does what is due for an outcome: a line is written on `err`, or that the program is accepted or the
+/// lives of its variables or the layout of its file or the report on its capabilities on `out`, or the
+/// program is run or compiled.
 pub fn answer<I: Source, O: Sink, E: Sink>(
     alloc: Global,
     asked: &Asked,

@@ -19,8 +19,8 @@ use au_outcomes::{NotedProgram, Refusal, abort_line, limit_line, refusal_text, s
 use au_running::{Ran, Report, run_program};
 use std::alloc::Global;
 
-/// Runs a program that is safe to run from its entry, and writes on `err` the lines of its events, if these are asked for, and
-/// the line that is due behind the run, if one is.
+/// Runs a program that is safe to run from its entry, and writes on `err` the lines of its events, if these
+/// are asked for, and the line that is due behind the run, if one is.
 ///
 /// # Errors
 ///

@@ -165,7 +165,10 @@ program_top = record (new_shape (codes "austral")) {
 
 -- the command line
 abbrev pub program : App
-program = record { top = program_top; subs = map subcommand (Run ∷ Compile ∷ Explain ∷ Check ∷ Format ∷ Caps ∷ []) }
+program = record {
+  top = program_top;
+  subs = map subcommand (Run ∷ Compile ∷ Explain ∷ Check ∷ Format ∷ Caps ∷ []);
+}
 
 -- What the library found in words is what they give.
 pub record Shows (rows : List Row) (what : Given) : Type 0 where

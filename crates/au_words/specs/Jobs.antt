@@ -1,7 +1,7 @@
 -- The jobs of a command line, and how words spell them.
 --
--- Words are the command line without the program's name. The first word is the command: `run`,
--- `compile`, `explain`, `check`, `format` or `caps`. Behind it stand parts and options in any order: at least one
+-- Words are the command line without the program's name. The first word is the command: `run`, `compile`,
+-- `explain`, `check`, `format` or `caps`. Behind it stand parts and options in any order: at least one
 -- part, and each option at most once. `run` takes `--entry=M:f`, `--steps=N` and `--life`, `compile` takes
 -- `--entry=M:f`, and the others take none. No option is abbreviated, and there is no other. `format` takes
 -- one file name and no more.
@@ -282,8 +282,8 @@ task_said command said =
       life = said.life;
     }
 
--- The words behind a command say this: they are pieces that the command takes, a part among them, and it takes
--- so many files.
+-- The words behind a command say this: they are pieces that the command takes, a part among them, and it
+-- takes so many files.
 pub record AreSaid (command : Command) (words : List (List ℕ)) (said : Said) : Type 0 where
   pub pieces : List Piece
   pub spelled : SpellsAll false pieces words
