@@ -61,7 +61,7 @@ use Rattle.au_closing_laws.proofs.HeadLemmas.{numbered_among, standing_numbered}
 use Rattle.au_closing_laws.proofs.OnceLemmas.{AreApart, module_new, nothing, parameters_apart}
 use Rattle.au_closing_laws.proofs.OnceLemmas.{role_of, said, two_types}
 
-ordered : (i j : ℕ) → (i < j) ⊎ ((i ≡ j) ⊎ (j < i))
+pub ordered : (i j : ℕ) → (i < j) ⊎ ((i ≡ j) ⊎ (j < i))
 ordered zero zero = inr (inl refl)
 ordered zero (suc j) = inl (omega arith)
 ordered (suc i) zero = inr (inr (omega arith))
@@ -138,7 +138,7 @@ module _ (heads : List (DeclAt × Head)) where
 -- ---- the row of a name
 
 -- the number of a name's type is that of its first declaration
-found_row : (place : ℕ) (ds : List (ℕ × PlainDeclaration)) (name : Bytes) (t : Target) →
+pub found_row : (place : ℕ) (ds : List (ℕ × PlainDeclaration)) (name : Bytes) (t : Target) →
     tables.find name (targets place (names_in Types ds)) ≡ Some t
     → (d : ℕ × PlainDeclaration) × (tables.find name (flat_map under_names ds) ≡ Some d)
     × (t.at ≡ record { «module» = place; decl = d.0 })
@@ -307,7 +307,7 @@ module _ (program : List ModuleParts) (at : DeclAt) (d : Standing) (name : Bytes
     (found : standing_at program at ≡ Some d) (whole : whole_name d.says ≡ Some name)
     (m : ModuleParts) (here : slice_get program at.«module» ≡ Some m)
     (new : AreNew nothing [] (flat_map said (module_standing at.«module» m))) where
-  abbrev all : List Standing
+  abbrev pub all : List Standing
   all = module_standing at.«module» m
 
   listed : slice_get all at.decl ≡ Some d
@@ -346,7 +346,7 @@ module _ (program : List ModuleParts) (at : DeclAt) (d : Standing) (name : Bytes
           (ap (is_named name) whole ∙ (bytes_eq-Decides name name).1 refl) (before j numbered_so)
 
   -- what declares a type of its name is itself, or is what it defines
-  leads_here : (one : DeclaredType) → type_declared d.says ≡ Some one → (k : ℕ) (s : Standing) →
+  pub leads_here : (one : DeclaredType) → type_declared d.says ≡ Some one → (k : ℕ) (s : Standing) →
       slice_get all k ≡ Some s → Among name (type_names s.says)
       → (definition_of program (record { «module» = at.«module»; decl = k }) ≡ Some d)
       × ((other : DeclaredType) × (type_declared s.says ≡ Some other))
@@ -393,7 +393,7 @@ module _ (program : List ModuleParts) (at : DeclAt) (d : Standing) (name : Bytes
           its_name).0)
 
   -- a declaration that has a name first stands at its number
-  abbrev Numbered : ℕ × PlainDeclaration → Type 0
+  abbrev pub Numbered : ℕ × PlainDeclaration → Type 0
   Numbered row = (s : Standing) × (slice_get all row.0 ≡ Some s) × (s.says ≡ row.1) × Among name (type_names row.1)
 
   at_number : (row : ℕ × PlainDeclaration) (k : ℕ) → row.0 ≡ 0 + k →
@@ -414,7 +414,7 @@ module _ (program : List ModuleParts) (at : DeclAt) (d : Standing) (name : Bytes
         its,
       )
 
-  numbered_here : (row : ℕ × PlainDeclaration) → tables.find name (flat_map under_names (declarations_of m))
+  pub numbered_here : (row : ℕ × PlainDeclaration) → tables.find name (flat_map under_names (declarations_of m))
       ≡ Some row → Numbered row
   numbered_here row e = on (among-flat_map under_names (declarations_of m) (name, row)
       (found_among name (flat_map under_names (declarations_of m)) row e))

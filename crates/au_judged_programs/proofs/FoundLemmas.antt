@@ -51,6 +51,7 @@ use Rattle.au_closing_laws.proofs.GatheredLemmas.{among_map}
 use Rattle.au_closing_laws.proofs.MeantLemmas.{placed}
 use Rattle.au_closing_laws.proofs.OnceLemmas.{module_new, said, two_declared}
 use Rattle.au_closing_laws.proofs.ShippedMethodLemmas.{standing_get, stands_defined, stands_promised}
+use Rattle.au_closing_laws.proofs.OwnTypeLemmas.{ordered}
 use Rattle.au_judged_bodies.specs.Bodies.{BodyOf, body_of, defining_in, defining_index}
 use Rattle.au_judged_bodies.specs.Entries.{Found, Function, begins, entry_of, form_at, form_of, formed, found_at, found_in}
 use Rattle.au_judged_bodies.specs.Entries.{function_among, function_at, function_in, meant_as, not_of_the_form, nowhere}
@@ -60,7 +61,6 @@ use Rattle.au_judged_bodies.specs.Written.{seen_in, types_at}
 use Rattle.au_judged_programs.specs.CheckedChecked.{IsChecked}
 use Rattle.au_judged_programs.specs.Entries.{IsEntryHere}
 use Rattle.au_judged_programs.proofs.CalledBodiesBodyLemmas.{HasBody, body_from, written_function}
-use Rattle.au_judged_programs.proofs.OwnLemmas.{ordered}
 
 -- ---- lists
 
