@@ -9,6 +9,7 @@ pub mod RecordLemmas
 pub mod FieldLemmas
 pub mod StandingTypesStandLemmas
 pub mod SeenLemmas
+pub mod LabelledApartLemmas
 pub mod OnceFieldsApartLemmas
 pub mod ViewLemmas
 pub mod TypedRunsExpressionLemmas

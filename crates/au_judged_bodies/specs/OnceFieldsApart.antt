@@ -10,7 +10,7 @@ use Rattle.au_names.specs.Owned.{declarations_in}
 use Rattle.au_rules.specs.Once.{AllNamesAreOnce}
 use Rattle.au_safe_steps.specs.Orders.{AreApart}
 
--- the names of fields, and those of cases
+-- the names of fields, or of parameters, and those of cases
 abbrev pub labels : List (Labelled Bytes) → List Bytes
 labels fields = map (λ (one : Labelled Bytes). one.name.name) fields
 

@@ -1,18 +1,14 @@
 -- The names of parameters in a program of which no name is declared again.
-use Rattle.std.specs.Prelude.{◌≡◌, ℕ, List, [], ◌∷◌, map, Some, slice_get}
+use Rattle.std.specs.Prelude.{◌≡◌, ℕ, List, [], ◌∷◌, Some, slice_get}
 use Rattle.au_syntax.specs.declared.modules.Part.{Part}
 use Rattle.au_syntax.specs.Modules.{Header, class, function, function_body}
 use Rattle.au_syntax.specs.Plain.{Bytes, PlainDeclaration}
-use Rattle.au_syntax.specs.Types.{Labelled}
 use Rattle.au_modules.specs.Programs.{ModuleParts}
 use Rattle.au_names.specs.Meanings.{part_of}
 use Rattle.au_names.specs.Owned.{declarations_in}
 use Rattle.au_rules.specs.Once.{AllNamesAreOnce}
 use Rattle.au_safe_steps.specs.Orders.{AreApart}
-
--- the names of parameters
-abbrev pub labels : List (Labelled Bytes) → List Bytes
-labels fields = map (λ (one : Labelled Bytes). one.name.name) fields
+use Rattle.au_judged_bodies.specs.OnceFieldsApart.{labels}
 
 -- no two parameters of one method have one name
 abbrev pub EachMethodIsApart : List (Header Bytes) → Type 0

@@ -35,7 +35,8 @@ use Rattle.au_judged_programs.specs.CheckedChecked.{IsChecked}
 use Rattle.au_judged_programs.proofs.DefinitionLemmas.{definitions_fit}
 use Rattle.au_judged_programs.proofs.FitLemmas.{definitions_apart}
 use Rattle.au_judged_programs.proofs.OwnLemmas.{own_defined}
-use Rattle.au_judged_bodies.specs.OnceParametersApart.{EachMethodIsApart, ParametersAreApart, labels}
+use Rattle.au_judged_bodies.specs.OnceFieldsApart.{labels}
+use Rattle.au_judged_bodies.specs.OnceParametersApart.{EachMethodIsApart, ParametersAreApart}
 use Rattle.au_judged_bodies.proofs.OnceParametersApartLemmas.{parameters_once}
 use Rattle.au_judged_programs.specs.Programs.{ProgramFits, has_headers}
 

@@ -11,7 +11,6 @@ pub mod opening;
 pub mod operations;
 pub mod orders;
 pub mod parts;
-mod places;
 pub mod types;
 
 pub use drafts::{Draft, end_jump, end_test, here, patch, put, put_draft};

@@ -5,9 +5,9 @@ ghost use Rattle.std.specs.Option.{option_copied, option_map};
 ghost use Rattle.au_lowering_expressions.specs.Views.{local_said, scope_said};
 ghost use Rattle.au_meaning.specs.Names.{variable_of};
 
-use crate::places::Places;
 use au_base::{Memory, Name};
 use au_type_texts::Closed;
+use au_typing::places::Places;
 use std::alloc::Global;
 use std::marker::Model;
 

@@ -4,7 +4,7 @@
 pub mod class_texts;
 pub mod derivation_laws;
 pub mod laws;
-mod places;
+pub mod places;
 pub mod typing_laws;
 pub mod variables;
 

@@ -12,7 +12,7 @@ use std::marker::Model;
 /// A place for each name, or none. It is found without a walk through the names. Contracts see the names that
 /// ever had a place, each with the place that it has.
 #[derive(Drop)]
-pub(crate) struct Places {
+pub struct Places {
     entries: IndexMap<Vec<u8>, Option<usize>>,
 }
 
@@ -27,7 +27,7 @@ impl Model for Places {
 
 impl Places {
     /// No name has a place.
-    pub(crate) fn new(alloc: Global) -> Places
+    pub fn new(alloc: Global) -> Places
         ensures { result ≡ [] }
     {
         Places {
@@ -36,7 +36,7 @@ impl Places {
     }
 
     /// The place of a name, if it has one.
-    pub(crate) fn get(&self, name: &[u8]) -> Option<usize>
+    pub fn get(&self, name: &[u8]) -> Option<usize>
         ensures { result ≡ place_in name.now self.now }
     {
         match self.entries.get(name) {
@@ -50,7 +50,7 @@ impl Places {
     /// # Errors
     ///
     /// Only for want of memory; nothing changes then.
-    pub(crate) fn make_room(&mut self, name: &[u8]) -> Result<(), Memory>
+    pub fn make_room(&mut self, name: &[u8]) -> Result<(), Memory>
         ensures room { OnOk result (IsSome (find name.now self.new)) }
         ensures same { OnOk result ((other : List ℕ) → place_in other self.new ≡ place_in other self.old) }
         ensures err { OnErr result (self.new ≡ self.old) }
@@ -64,7 +64,7 @@ impl Places {
     }
 
     /// Gives a name this place, or none. There is room for it.
-    pub(crate) fn set(&mut self, name: &[u8], place: Option<usize>)
+    pub fn set(&mut self, name: &[u8], place: Option<usize>)
         requires { IsSome (find name.now self.old) }
         ensures { (other : List ℕ) → place_in other self.new
             ≡ placed name.now place (λ one. place_in one self.old) other }
