@@ -12,8 +12,8 @@ loop-own-init c =
     let web = c.new-web.ensures in
     web_none (slots.modules c.args.program.now) c.args.reaching.now
     (length c.deref-one-items.result.now) c.new-web.result
-    (web.count ∙ c.len.ensures ∙ c.args.bodies.now.ok.0 ∙ ap (λ l. length l) (sym c.deref-one-items.ensures.value))
-    web.keys web.edges web.births
+    (web.count ∙ c.len.ensures ∙ c.args.bodies.now.ok.0
+    ∙ ap (λ l. length l) (sym c.deref-one-items.ensures.value)) web.keys web.edges web.births
 
 pub add_body-requires : goal.add_body-requires
 add_body-requires c = record {
