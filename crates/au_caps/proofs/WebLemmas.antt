@@ -659,7 +659,7 @@ pub all_labelled : (program : List ModuleParts) (noted : List NotedParts) (bs : 
     ≡ length r.heads.items
     → IsGraphOf heads w.births.items labels → AreSpread graph labels made
     → AreLabelled program noted r bs made
-all_labelled program noted bs same r reaching w count web long graph labels made of_edges heads many
+all_labelled program noted bs same r reaching w total web long graph labels made of_edges heads many
     of_births spread =
     let all = all_bodied noted in
     let counted : w.count ≡ length all = web.count ∙ long ∙ ap (λ (l : List Bodied). length l) same in

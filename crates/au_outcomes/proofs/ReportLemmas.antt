@@ -1,5 +1,5 @@
 -- A program has one report on capabilities.
-use Rattle.std.proofs.Common.{◌≡◌, List, Ok, ◌∙◌, refl, sym, subst}
+use Rattle.std.proofs.Common.{◌≡◌, List, Ok, refl, subst}
 use Rattle.au_caps_text.specs.declared.reports.Report.{Report}
 use Rattle.au_caps.specs.Reports.{IsReportOf}
 use Rattle.au_caps.proofs.ReportLemmas.{one_report}
@@ -10,21 +10,15 @@ use Rattle.au_outcomes.specs.declared.outcomes.Outcome.TheVariants as outcome
 use Rattle.au_modules.specs.Programs.{ModuleParts}
 use Rattle.au_typing.specs.Outsides.{outside_of}
 use Rattle.au_typing.specs.Trees.{NotedParts}
-use Rattle.au_typing.proofs.ProgramLemmas.{program_found, program_sound}
+use Rattle.au_typing.proofs.ProgramLemmas.{program_sound, two_are_one}
 
 -- for a program
 module _ (program : List ModuleParts) where
-  -- the rules derive it with one list of notes at most
-  one_derived : (a b : List NotedParts) → IsDerived program a → IsDerived program b → a ≡ b
-  one_derived a b p q =
-      let e : Ok a ≡ Ok b =
-      sym (program_found (outside_of program) program a p) ∙ program_found (outside_of program) program b q in
-      cc
-
   -- the report of one derivation is that of another
   pub report_with : (a b : List NotedParts) (report : Report) → IsDerived program a → IsDerived program b
       → IsReportOf program a report → IsReportOf program b report
-  report_with a b report p q is = subst (λ noted. IsReportOf program noted report) (one_derived a b p q) is
+  report_with a b report p q is = subst (λ noted. IsReportOf program noted report)
+      (two_are_one (outside_of program) program a b p q) is
 
   -- there is one report
   pub reports_same : (a b : List NotedParts) (x y : Report) → IsDerived program a → IsDerived program b

@@ -2,7 +2,7 @@ use Rattle.std.proofs.Common.{◌+◌, [], ◌∷◌, get_or, refl, sym, take}
 use Rattle.std.proofs.lemmas.List.{get_or_default}
 use Rattle.au_types.specs.declared.types.DeclAt.{DeclAt}
 use Rattle.au_caps.specs.Calls.{a_class, an_instance}
-use Rattle.au_caps.specs.Webs.{a_callee, constraint_arcs}
+use Rattle.au_caps.specs.Webs.{Node, a_callee, constraint_arcs}
 use Rattle.au_caps_lists.proofs.LoopLemmas.{mapped_more}
 use Rattle.au_caps.proofs.GrowLemmas.{grows_as, grows_none, grows_then}
 use Rattle.au_caps.proofs.edges.add_constraints.Goals as goal
@@ -19,7 +19,7 @@ loop-other-preserved c =
     let i = c.loop-other.other-index in
     let none : DeclAt = record { «module» = 0; decl = 0 } in
     let other = get_or others i none in
-    let arc = λ (d : DeclAt). (a_callee (an_instance class one), a_callee (a_class d)) in
+    let arc : DeclAt → Node × Node = λ d. (a_callee (an_instance class one), a_callee (a_class d)) in
     grows_as _ (constraint_arcs class one (take (i + 1) others)) [] [] _ _
     (sym (mapped_more others i other c.loop-other-test.true
     (get_or_default others i none other c.loop-other-test.true) arc)) refl

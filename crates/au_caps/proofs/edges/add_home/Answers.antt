@@ -19,7 +19,7 @@ returns-in-None c =
 pub returns-in_ok-others-in-Some : goal.returns-in_ok-others-in-Some
 returns-in_ok-others-in-Some c =
     let b = body_said c.args.body.now in
-    let others = c.as_slice.ensures.value ∙ c.in_ok-others.ensures in
+    let others = c.as_slice.ensures.value ∙ c.in_ok-others-in-Some.ensures in
     IfOk-weaker c.add_of_class.result _ _
     (λ u g. grows_as _ _ [] [] _ _
     (λ i. method_arcs c.args.own b (c.in-Some.ensures i) (c.constructor_written-one.ensures i) (others i))

@@ -1,4 +1,4 @@
-use Rattle.std.proofs.Common.{ℕ, length, subst, sym, take, ◌∙◌}
+use Rattle.std.proofs.Common.{ℕ, ap, length, subst, sym, take, ◌∙◌}
 use Rattle.std.specs.Prelude.{◌<◌, Contains}
 use Rattle.au_modules.specs.Slots as slots
 use Rattle.au_caps_lists.specs.Views.{bodies_said, body_said}
@@ -11,8 +11,9 @@ pub loop-own-init : goal.loop-own-init
 loop-own-init c =
     let web = c.new-web.ensures in
     web_none (slots.modules c.args.program.now) c.args.reaching.now
-    (length c.args.bodies.now.items) c.new-web.result
-    (web.count ∙ c.len.ensures ∙ c.args.bodies.now.ok.0) web.keys web.edges web.births
+    (length c.deref-one-items.result.now) c.new-web.result
+    (web.count ∙ c.len.ensures ∙ c.args.bodies.now.ok.0
+    ∙ ap (λ l. length l) (sym c.deref-one-items.ensures.value)) web.keys web.edges web.births
 
 pub add_body-requires : goal.add_body-requires
 add_body-requires c = record {

@@ -13,12 +13,12 @@ pub loop-place-preserved : goal.loop-place-preserved
 loop-place-preserved c =
     let modules = c.args.modules.now in
     let place = c.loop-place.place in
-    let one = c.one-item.result in
+    let one = c.index-modules-place.result in
     c.in_ok-push_file.ensures
     ∙ ap (λ f. bodies_said c.loop-place.made.items ++ bodied_of_file place (part_said f))
     c.as_ref.ensures.value
     ∙ ap (λ l. l ++ bodied_of_file place (part_said one.body)) c.loop-place.invariant
-    ∙ sym (bodied_more modules place one c.loop-place-test.true c.one-item.is)
+    ∙ sym (bodied_more modules place one c.loop-place-test.true c.index-modules-place.is)
 
 pub returns : goal.returns
 returns c =
