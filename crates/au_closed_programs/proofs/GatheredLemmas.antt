@@ -1,5 +1,7 @@
 -- What is reached from gathered types is what is reached from all that occur.
-use Rattle.std.proofs.Common.{◌≡◌, true, List, [], ◌∷◌, ◌++◌, refl, sym, ap, ◌∙◌, subst, ⊎_elim}
+use Rattle.std.proofs.Common.{◌≡◌, ℕ, ◌+◌, ◌<◌, true, List, [], ◌∷◌, ◌++◌, drop, get_or, length, map}
+use Rattle.std.proofs.Common.{refl, sym, ap, ◌∙◌, subst, ⊎_elim}
+use Rattle.std.proofs.lemmas.List.{drop_more}
 use Rattle.au_types.specs.declared.headings.Head.{Head}
 use Rattle.au_types.specs.declared.types.DeclAt.{DeclAt}
 use Rattle.au_type_texts.specs.Same.{same}
@@ -48,3 +50,19 @@ pub functions_free : (heads : List (DeclAt × Head)) (all : List ClosedFunction)
     → types_in_functions [] all ≡ types_in_functions heads all
 functions_free heads [] = refl
 functions_free heads (f ∷ rest) = λ i. function_free heads f i ++ functions_free heads rest i
+
+-- one item more adds what it has, before what is left
+pub left_less : {X Y : Type 0} (see : X → Y) (all : List Y → List ClosedType) (one : Y → List ClosedType)
+    → ((y : Y) (rest : List Y) → all (y ∷ rest) ≡ one y ++ all rest)
+    → (items : List X) (i : ℕ) (item : X) (found more whole : List ClosedType)
+    → i < length items → item ≡ get_or items i item → more ≡ adds same found (one (see item))
+    → adds same found (all (map see (drop i items))) ≡ whole
+    → adds same more (all (map see (drop (i + 1) items))) ≡ whole
+left_less see all one parts items i item found more whole below here grows so_far =
+    let rest = map see (drop (i + 1) items) in
+    ap (λ l. adds same l (all rest)) grows
+    ∙ sym (adds_both same found (one (see item)) (all rest))
+    ∙ ap (adds same found) (sym (parts (see item) rest))
+    ∙ ap (λ x. adds same found (all (see x ∷ rest))) here
+    ∙ ap (λ l. adds same found (all (map see l))) (sym (drop_more items i item below))
+    ∙ so_far

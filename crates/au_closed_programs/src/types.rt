@@ -35,6 +35,7 @@ fn gather_in_parameters(
 }
 
 /// Gathers the declared types that occur in a function.
+#[tactic(auto, using(au_graphs::proofs::HasLemmas::adds_both))]
 fn gather_in_function(
     alloc: Global,
     one: &ClosedFunction,

@@ -176,7 +176,8 @@ fn add_block(alloc: Global, of: &Block<ClosedTrees>, found: &mut Gathered) -> Re
 #[cycle(add_statement)]
 fn add_branch(alloc: Global, of: &Branch<ClosedTrees>, found: &mut Gathered) -> Result<(), Memory>
     ensures { OnOk result (found.new
-        ≡ adds same found.old (spec.said_in (types_noted []) (expression closed of.now.test.value) ++ spec.said_in_block (types_noted []) (block closed of.now.block))) }
+        ≡ adds same found.old (spec.said_in (types_noted []) (expression closed of.now.test.value)
+        ++ spec.said_in_block (types_noted []) (block closed of.now.block))) }
 {
     add_expression(alloc, &of.test, found)?;
     add_block(alloc, &of.block, found)

@@ -99,3 +99,6 @@ pub add_statement-returns-in_ok-add_expression-in-For-2 :
     goal.add_statement-returns-in_ok-add_expression-in-For-2
 add_statement-returns-in_ok-add_expression-in-For-2 t c =
     grind (arith, adds_both, lemmas.for_statement_said)
+
+pub add_branch-returns : goal.add_branch-returns
+add_branch-returns t c = grind (arith, adds_both)
