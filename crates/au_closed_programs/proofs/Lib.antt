@@ -5,3 +5,4 @@ mod SightLemmas
 pub mod OrderLemmas
 pub mod ClosedLemmas
 mod AnswerLemmas
+pub mod GatheredLemmas

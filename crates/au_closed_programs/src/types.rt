@@ -1,6 +1,6 @@
 //! The closed declared types that occur in the functions of a closed program.
 
-ghost use Rattle.std.specs.Prelude.{◌≡◌, ◌++◌, IfOk, OnOk, map, true};
+ghost use Rattle.std.specs.Prelude.{◌≡◌, [], IfOk, OnOk, true};
 ghost use Rattle.std.specs.List.Sorted.{IsPermutation, IsSorted};
 ghost use Rattle.au_closed_programs.specs.FunctionViews.{function_said, functions_said};
 ghost use Rattle.au_closed_trees.specs.Occurring.{counts_in, occurring_in_fields};
@@ -8,62 +8,55 @@ ghost use Rattle.au_closed_trees.specs.Views.{fields_said};
 ghost use Rattle.au_closed_programs.specs.Programs as spec;
 ghost use Rattle.au_closed_programs.specs.Programs.{ClosesTypes};
 ghost use Rattle.au_closed_programs.specs.Views.{rows_said};
-ghost use Rattle.au_type_texts.specs.Views.{closed_meaning};
+ghost use Rattle.au_graphs.specs.Reached.{adds};
+ghost use Rattle.au_type_texts.specs.Same.{same};
 ghost use Rattle.au_modules.specs.Slots as slots;
 
 use crate::functions::ClosedFunction;
 use crate::rows::{TypeRow, row_cmp, rows_of};
 use au_base::Memory;
-use au_closed_trees::{ClosedField, add_occurring, add_types_in_block, types_reached};
+use au_closed_trees::{ClosedField, Gathered, add_types_in_block, gather, types_reached};
 use au_imports::Resolved;
-use au_type_texts::Closed;
-use au_types::Heads;
 use std::alloc::Global;
 
-/// Puts the declared types that occur in the types of parameters behind others.
-fn add_in_parameters(
+/// Gathers the declared types that occur in the types of parameters.
+fn gather_in_parameters(
     alloc: Global,
-    heads: &Heads,
     fields: &Vec<ClosedField>,
-    found: &mut Vec<Closed>,
+    found: &mut Gathered,
 ) -> Result<(), Memory>
-    ensures { OnOk result (map closed_meaning found.new.items
-        ≡ map closed_meaning found.old.items
-        ++ occurring_in_fields (counts_in true heads.now) (fields_said fields.now.items)) }
+    ensures { OnOk result (found.new
+        ≡ adds same found.old (occurring_in_fields (counts_in true []) (fields_said fields.now.items))) }
 {
     for one in fields {
-        add_occurring(alloc, true, heads, &one.of, found)?;
+        gather(alloc, &one.of, found)?;
     }
     Ok(())
 }
 
-/// Puts the declared types that occur in a function behind others.
-fn add_in_function(
+/// Gathers the declared types that occur in a function.
+#[tactic(auto, using(au_graphs::proofs::HasLemmas::adds_both))]
+fn gather_in_function(
     alloc: Global,
-    heads: &Heads,
     one: &ClosedFunction,
-    found: &mut Vec<Closed>,
+    found: &mut Gathered,
 ) -> Result<(), Memory>
-    ensures { OnOk result (map closed_meaning found.new.items
-        ≡ map closed_meaning found.old.items ++ spec.types_in_function heads.now (function_said one.now)) }
+    ensures { OnOk result (found.new
+        ≡ adds same found.old (spec.types_in_function [] (function_said one.now))) }
 {
-    add_in_parameters(alloc, heads, &one.parameters, found)?;
-    add_occurring(alloc, true, heads, &one.result, found)?;
-    add_types_in_block(alloc, heads, &one.body, found)
+    gather_in_parameters(alloc, &one.parameters, found)?;
+    gather(alloc, &one.result, found)?;
+    add_types_in_block(alloc, &one.body, found)
 }
 
 /// The declared types that occur in functions, in order.
-fn types_in_functions(
-    alloc: Global,
-    heads: &Heads,
-    functions: &[ClosedFunction],
-) -> Result<Vec<Closed>, Memory>
+fn types_in_functions(alloc: Global, functions: &[ClosedFunction]) -> Result<Gathered, Memory>
     ensures { IfOk result (λ found.
-        map closed_meaning found.items ≡ spec.types_in_functions heads.now (functions_said functions.now)) }
+        found ≡ adds same [] (spec.types_in_functions [] (functions_said functions.now))) }
 {
-    let mut found = Vec::new(alloc);
+    let mut found = Gathered::new(alloc);
     for one in functions {
-        add_in_function(alloc, heads, one, &mut found)?;
+        gather_in_function(alloc, one, &mut found)?;
     }
     Ok(found)
 }
@@ -85,8 +78,8 @@ pub(crate) fn closed_types(
     ensures { IfOk result (λ rows.
         ClosesTypes (slots.modules program.now) (functions_said functions.now) (rows_said rows.items)) }
 {
-    let starts = types_in_functions(alloc, program.heads_ref(), functions)?;
-    let reached = types_reached(alloc, program, starts)?;
+    let found = types_in_functions(alloc, functions)?;
+    let reached = types_reached(alloc, program, found.into_list())?;
     let mut rows = rows_of(alloc, program, reached.list())?;
     sort_rows(&mut rows);
     Ok(rows)

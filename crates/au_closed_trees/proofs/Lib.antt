@@ -6,3 +6,4 @@ mod ClosingLemmas
 pub mod LoopLemmas
 pub mod SnocLemmas
 mod NoteLemmas
+pub mod GatheringLemmas

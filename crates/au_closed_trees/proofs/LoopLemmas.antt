@@ -1,7 +1,9 @@
 -- Steps of the proofs of loops over the items of a tree.
-use Rattle.std.proofs.Common.{◌≡◌, ℕ, ◌+◌, ◌<◌, ◌≤◌, List, [], ◌∷◌, ◌++◌, length, take}
+use Rattle.std.proofs.Common.{◌≡◌, ℕ, ◌+◌, ◌<◌, ◌≤◌, Bool, List, [], ◌∷◌, ◌++◌, length, take}
 use Rattle.std.proofs.Common.{get_or, ap, ◌∙◌, sym}
 use Rattle.std.proofs.lemmas.List.{append_assoc, append-nil, take_all, take_more}
+use Rattle.au_graphs.specs.Reached.{adds}
+use Rattle.au_graphs.proofs.HasLemmas.{adds_both}
 
 -- ---- lists that are made
 
@@ -63,3 +65,31 @@ found_more old_all old_snoc old_see say_all say
 -- what is found of an item alone, with nothing behind it
 pub alone_behind : {A : Type 0} (so_far last now : List A) → now ≡ so_far ++ last → now ≡ so_far ++ (last ++ [])
 alone_behind so_far last now is = is ∙ ap (λ r. so_far ++ r) (sym (append-nil last))
+
+-- what one more item adds is added to what the others add
+pub added_more : {A F D G : Type 0} (same : A → A → Bool) (old_all : List F → D) (old_snoc : D → G → D)
+    (old_see : F → G) (say_all : D → List A) (say : G → List A)
+    → ((xs : List F) (x : F) → old_all (xs ++ x ∷ []) ≡ old_snoc (old_all xs) (old_see x))
+    → ((d : D) (y : G) → say_all (old_snoc d y) ≡ say_all d ++ say y)
+    → (start so_far now : List A) (xs : List F) (i : ℕ) (x : F)
+    → so_far ≡ adds same start (say_all (old_all (take i xs)))
+    → i < length xs
+    → x ≡ get_or xs i x
+    → now ≡ adds same so_far (say (old_see x))
+    → now ≡ adds same start (say_all (old_all (take (i + 1) xs)))
+added_more same old_all old_snoc old_see say_all say
+    old_push say_push start so_far now xs i x found inside is grows =
+    let before = say_all (old_all (take i xs)) in
+    let last = get_or xs i x in
+    grows
+    ∙ ap (λ r. adds same r (say (old_see x))) found
+    ∙ sym (adds_both same start before (say (old_see x)))
+    ∙ ap (λ y. adds same start (before ++ say (old_see y))) is
+    ∙ ap (adds same start) (sym (say_push (old_all (take i xs)) (old_see last)))
+    ∙ ap (λ d. adds same start (say_all d)) (sym (old_push (take i xs) last))
+    ∙ ap (λ l. adds same start (say_all (old_all l))) (sym (take_more xs i x inside))
+
+-- what an item alone adds, with nothing behind it
+pub added_alone : {A : Type 0} (same : A → A → Bool) (so_far last now : List A) → now ≡ adds same so_far last
+    → now ≡ adds same so_far (last ++ [])
+added_alone same so_far last now is = is ∙ ap (adds same so_far) (sym (append-nil last))

@@ -3,6 +3,7 @@ pub mod Parts
 pub mod Occurring
 pub mod Views
 pub mod Telling
+pub mod Gathering
 pub mod ClosedNotes
 pub mod Changes
 pub mod Renoted

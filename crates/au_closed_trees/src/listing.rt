@@ -29,7 +29,7 @@ struct Types<'a> {
 }
 
 /// The key of a closed type.
-fn key_of(alloc: Global, of: &Closed) -> Result<Vec<u32>, Memory>
+pub(crate) fn key_of(alloc: Global, of: &Closed) -> Result<Vec<u32>, Memory>
     ensures { IfOk result (λ key. key.items ≡ keys.key_of (closed_meaning of.now)) }
 {
     let mut key = Vec::new(alloc);

@@ -39,31 +39,25 @@ fn is_holder(heads: &Heads, at: DeclAt) -> bool
     }
 }
 
-/// Whether the arguments of a declared type count: those of all, or of all but boxes and buffers.
-fn counts(everywhere: bool, heads: &Heads, at: DeclAt) -> bool
-    ensures { result ≡ counts_in everywhere heads.now at }
+/// Whether the arguments of a declared type count: those of all but boxes and buffers.
+fn counts(heads: &Heads, at: DeclAt) -> bool
+    ensures { result ≡ counts_in false heads.now at }
 {
-    everywhere || !is_holder(heads, at)
+    !is_holder(heads, at)
 }
 
-/// Puts the declared types that occur in a closed type behind others: everywhere, or else outside boxes and
-/// buffers.
-///
-/// # Errors
-///
-/// Only for want of memory.
+/// Puts the declared types that occur in a closed type, outside boxes and buffers, behind others.
 #[tactic(auto, using(au_type_texts::proofs::ClosedLemmas::closed_steps, std::proofs::lemmas::Grind::common_steps))]
 #[cycle(add_occurring)]
-pub fn add_occurring(
+fn add_occurring(
     alloc: Global,
-    everywhere: bool,
     heads: &Heads,
     of: &Closed,
     found: &mut Vec<Closed>,
 ) -> Result<(), Memory>
     ensures { OnOk result (map closed_meaning found.new.items
         ≡ map closed_meaning found.old.items
-        ++ spec.occurring (counts_in everywhere heads.now) (closed_meaning of.now)) }
+        ++ spec.occurring (counts_in false heads.now) (closed_meaning of.now)) }
 {
     match of {
         Closed::Unit => Ok(()),
@@ -72,14 +66,14 @@ pub fn add_occurring(
         Closed::Text => Ok(()),
         Closed::Named { of: at, args } => {
             add_copy(alloc, of, found)?;
-            if counts(everywhere, heads, *at) {
-                add_all(alloc, everywhere, heads, args, found)
+            if counts(heads, *at) {
+                add_all(alloc, heads, args, found)
             } else {
                 Ok(())
             }
         }
-        Closed::Read(to) => add_occurring(alloc, everywhere, heads, to, found),
-        Closed::Write(to) => add_occurring(alloc, everywhere, heads, to, found),
+        Closed::Read(to) => add_occurring(alloc, heads, to, found),
+        Closed::Write(to) => add_occurring(alloc, heads, to, found),
     }
 }
 
@@ -98,17 +92,16 @@ fn add_copy(alloc: Global, of: &Closed, found: &mut Vec<Closed>) -> Result<(), M
 #[cycle(add_occurring)]
 fn add_all(
     alloc: Global,
-    everywhere: bool,
     heads: &Heads,
     list: &Vec<Closed>,
     found: &mut Vec<Closed>,
 ) -> Result<(), Memory>
     ensures { OnOk result (map closed_meaning found.new.items
         ≡ map closed_meaning found.old.items
-        ++ spec.all_occurring (counts_in everywhere heads.now) (closed_meanings list.now.items)) }
+        ++ spec.all_occurring (counts_in false heads.now) (closed_meanings list.now.items)) }
 {
     for one in list {
-        add_occurring(alloc, everywhere, heads, one, found)?;
+        add_occurring(alloc, heads, one, found)?;
     }
     Ok(())
 }
@@ -125,7 +118,7 @@ pub(crate) fn add_in_fields(
         ++ spec.occurring_in_fields (counts_in false heads.now) (fields_said fields.now.items)) }
 {
     for one in fields {
-        add_occurring(alloc, false, heads, &one.of, found)?;
+        add_occurring(alloc, heads, &one.of, found)?;
     }
     Ok(())
 }

@@ -1,8 +1,6 @@
-use Rattle.std.proofs.Common.{◌++◌, map, sym, arith}
-use Rattle.std.proofs.lemmas.Grind.{common_steps}
-use Rattle.std.proofs.lemmas.List.{append-nil}
+use Rattle.std.proofs.Common.{◌++◌, [], refl, arith}
 use Rattle.au_closed_trees.specs.contracts.phase.ClosedTreesPhase.TheImpl.{ghosts as closed}
-use Rattle.au_type_texts.specs.Views.{closed_meaning}
+use Rattle.au_type_texts.specs.Same.{same}
 use Rattle.au_closed_trees.specs.Types.{types_noted}
 use Rattle.au_syntax.specs.Views.{arm_all, block, branch_all, expression, statement, statement_all}
 use Rattle.au_closed_trees.specs.Notes.{said_in, said_in_arms, said_in_block, said_in_branches, said_in_statement}
@@ -10,11 +8,12 @@ use Rattle.au_closed_trees.proofs.NoteLemmas as lemmas
 use Rattle.au_closed_trees.proofs.NoteLemmas.{arms_told, branches_told, statements_told}
 use Rattle.au_closed_trees.proofs.SnocLemmas.{arms_push, branches_push, one_arm, one_branch, snoc_arms}
 use Rattle.au_closed_trees.proofs.SnocLemmas.{snoc_branches, snoc_statements, statements_push}
-use Rattle.au_closed_trees.proofs.LoopLemmas.{alone_behind, found_more}
+use Rattle.au_closed_trees.proofs.LoopLemmas.{added_alone, added_more}
+use Rattle.au_graphs.proofs.HasLemmas.{adds_both}
 use Rattle.au_closed_trees.proofs.trees.+add_statement.Goals as goal
 
 pub add_statement-returns-in-Skip : goal.add_statement-returns-in-Skip
-add_statement-returns-in-Skip t c = grind (arith, common_steps, lemmas.skip_statement_said)
+add_statement-returns-in-Skip t c = grind (arith, adds_both, lemmas.skip_statement_said)
 
 pub add_statement-returns-in-Let : goal.add_statement-returns-in-Let
 add_statement-returns-in-Let t c = grind (arith, lemmas.let_statement_said)
@@ -46,57 +45,60 @@ add_statement-returns-in-Return t c = grind (arith, lemmas.return_statement_said
 pub add_statement-returns-in_ok-add_branches-in-IfElse :
     goal.add_statement-returns-in_ok-add_branches-in-IfElse
 add_statement-returns-in_ok-add_branches-in-IfElse t c =
-    grind (arith, common_steps, lemmas.if_else_statement_said)
+    grind (arith, adds_both, lemmas.if_else_statement_said)
 
 pub add_statement-returns-in_ok-add_expression-in-Case :
     goal.add_statement-returns-in_ok-add_expression-in-Case
 add_statement-returns-in_ok-add_expression-in-Case t c =
-    grind (arith, common_steps, lemmas.case_statement_said)
+    grind (arith, adds_both, lemmas.case_statement_said)
 
 pub add_statement-returns-in_ok-add_expression-in-While :
     goal.add_statement-returns-in_ok-add_expression-in-While
 add_statement-returns-in_ok-add_expression-in-While t c =
-    grind (arith, common_steps, lemmas.while_statement_said)
+    grind (arith, adds_both, lemmas.while_statement_said)
 
 pub add_block-loop-one-init : goal.add_block-loop-one-init
-add_block-loop-one-init t c = sym (append-nil (map closed_meaning c.args.found.now.items))
+add_block-loop-one-init t c = refl
 
 pub add_block-loop-one-preserved : goal.add_block-loop-one-preserved
 add_block-loop-one-preserved t c =
-    let said = types_noted c.args.heads.now in
-    found_more (statement_all closed) snoc_statements (statement closed)
+    let said = types_noted [] in
+    added_more same (statement_all closed) snoc_statements (statement closed)
     (said_in_block said) (said_in_statement said) (statements_push closed) (statements_told said)
-    (map closed_meaning c.args.found.now.items) _ _ c.deref-one-items.result.now c.loop-one.one-index
+    c.args.found.now _ _ c.deref-one-items.result.now c.loop-one.one-index
     c.one-item.result c.loop-one.invariant c.loop-one-test.true c.one-item.is c.in_ok-add_statement.ensures
 
 pub add_branches-loop-one-init : goal.add_branches-loop-one-init
-add_branches-loop-one-init t c = sym (append-nil (map closed_meaning c.args.found.now.items))
+add_branches-loop-one-init t c = refl
 
 pub add_branches-loop-one-preserved : goal.add_branches-loop-one-preserved
 add_branches-loop-one-preserved t c =
-    let said = types_noted c.args.heads.now in
-    found_more (branch_all closed) snoc_branches (one_branch closed)
+    let said = types_noted [] in
+    added_more same (branch_all closed) snoc_branches (one_branch closed)
     (said_in_branches said) (said_in_branches said) (branches_push closed) (branches_told said)
-    (map closed_meaning c.args.found.now.items) _ _ c.deref-one-items.result.now c.loop-one.one-index
+    c.args.found.now _ _ c.deref-one-items.result.now c.loop-one.one-index
     c.one-item.result c.loop-one.invariant c.loop-one-test.true c.one-item.is
-    (alone_behind (map closed_meaning c.loop-one.found.items)
+    (added_alone same c.loop-one.found
     (said_in said (expression closed c.one-item.result.test.value)
     ++ said_in_block said (block closed c.one-item.result.block)) _ c.in_ok-add_branch.ensures)
 
 pub add_arms-loop-one-init : goal.add_arms-loop-one-init
-add_arms-loop-one-init t c = sym (append-nil (map closed_meaning c.args.found.now.items))
+add_arms-loop-one-init t c = refl
 
 pub add_arms-loop-one-preserved : goal.add_arms-loop-one-preserved
 add_arms-loop-one-preserved t c =
-    let said = types_noted c.args.heads.now in
-    found_more (arm_all closed) snoc_arms (one_arm closed)
+    let said = types_noted [] in
+    added_more same (arm_all closed) snoc_arms (one_arm closed)
     (said_in_arms said) (said_in_arms said) (arms_push closed) (arms_told said)
-    (map closed_meaning c.args.found.now.items) _ _ c.deref-one-items.result.now c.loop-one.one-index
+    c.args.found.now _ _ c.deref-one-items.result.now c.loop-one.one-index
     c.one-item.result c.loop-one.invariant c.loop-one-test.true c.one-item.is
-    (alone_behind (map closed_meaning c.loop-one.found.items)
+    (added_alone same c.loop-one.found
     (said_in_block said (block closed c.one-item.result.block)) _ c.in_ok-add_arm.ensures)
 
 pub add_statement-returns-in_ok-add_expression-in-For-2 :
     goal.add_statement-returns-in_ok-add_expression-in-For-2
 add_statement-returns-in_ok-add_expression-in-For-2 t c =
-    grind (arith, common_steps, lemmas.for_statement_said)
+    grind (arith, adds_both, lemmas.for_statement_said)
+
+pub add_branch-returns : goal.add_branch-returns
+add_branch-returns t c = grind (arith, adds_both)
