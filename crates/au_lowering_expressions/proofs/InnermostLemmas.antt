@@ -7,9 +7,9 @@ use Rattle.std.proofs.lemmas.List.{reverse-reverse, take-take}
 use Rattle.std.proofs.lemmas.Option.{slice_get-get_or, slice_get_read, none-some, same_Some}
 use Rattle.std.proofs.Math.Seq.{get_or-append_seam}
 use Rattle.std.specs.Str.{bytes_eq}
-use Rattle.indexmap.proofs.ReorderLemmas.{map-reverse}
 use Rattle.au_typing.specs.Places.{place_in}
 use Rattle.au_meaning.specs.Names.{Variable, variable_of}
+use Rattle.au_lowered.proofs.CallLemmas.{map_reverse}
 use Rattle.au_lowering_expressions.specs.declared.locals.Held.{Held}
 use Rattle.au_lowering_expressions.specs.Innermost.{ArePlaced, alone, place_of}
 use Rattle.au_lowering_expressions.specs.Views.{local_said, scope_said}
@@ -95,7 +95,7 @@ map_said [] = refl
 map_said (h ∷ rest) = ap (λ l. said h ∷ l) (map_said rest)
 
 scope_is : (hs : List Held) → scope_said (alone hs) ≡ map said (reverse hs)
-scope_is hs = ap reverse (map_said hs) ∙ sym (map-reverse said hs)
+scope_is hs = ap reverse (map_said hs) ∙ sym (map_reverse said hs)
 
 -- ---- the table
 
