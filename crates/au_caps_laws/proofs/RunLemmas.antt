@@ -139,7 +139,7 @@ module _ (P : ClosedType → Type 0) where
   apart_keeps (values.truth b) = stuck_keeps P _
   apart_keeps (values.number kind z) = stuck_keeps P _
   apart_keeps (values.text t) = stuck_keeps P _
-  apart_keeps (values.made tag birth fields) =
+  apart_keeps (values.made tag birth parts) =
       and_keeps P _ _ (does_keeps P _ (λ w. bears_spends P birth w.store)) (pure_keeps P _)
   apart_keeps (values.reference borrow place) = stuck_keeps P _
   apart_keeps (values.box id) = stuck_keeps P _

@@ -76,7 +76,7 @@ module _ (P : ClosedType → Type 0) where
   apart_bears (values.truth b) s = tt
   apart_bears (values.number kind z) s = tt
   apart_bears (values.text t) s = tt
-  apart_bears (values.made tag birth fields) s = bears_spends P birth s
+  apart_bears (values.made tag birth parts) s = bears_spends P birth s
   apart_bears (values.reference borrow place) s =
       case_bears (borrow, place) s (read_behind (borrow, place) s) (read_bears (borrow, place) s)
   apart_bears (values.box id) s = tt
