@@ -3,13 +3,13 @@ use Rattle.std.proofs.Common.{◌≡◌, ℕ, zero, suc, Bool, true, false, List
 use Rattle.std.proofs.Common.{refl, sym, ap, ◌∙◌, if◌then◌else◌}
 use Rattle.std.proofs.lemmas.List.{append-nil, append_assoc}
 use Rattle.au_effects.specs.Answers as answer
-use Rattle.au_effects.specs.Worlds.{born, consumed, opened, used, closed, closes, spends, tells}
+use Rattle.au_effects.specs.Worlds.{consumed, closed, closes, spends, tells}
 use Rattle.au_type_texts.specs.Types.{ClosedType}
-use Rattle.au_meaning.specs.Acts.{closing, in_store, stored}
+use Rattle.au_meaning.specs.Acts.{stored}
 use Rattle.au_meaning.specs.Ticks.{Action, Out, aborts, asks, by_truth, comes, cut, does, follows, found_in, gives}
 use Rattle.au_meaning.specs.Ticks.{needing, no_rule, over, pure, stuck, takes, tick, ticked, where_true, ◌>>=◌}
 use Rattle.au_meaning.specs.Ticks.{◌>>◌}
-use Rattle.au_meaning.specs.Worlds.{Event, Store, Value, World}
+use Rattle.au_meaning.specs.Worlds.{Event, Store, World}
 use Rattle.au_caps_laws.specs.Bearing.{AreWithin, Bears, BearsTo, IsWithin}
 
 module _ (P : ClosedType → Type 0) where

@@ -1,6 +1,6 @@
 -- What may be born by the calls of a function is what the report says that it may make, given what is known of
 -- each call.
-use Rattle.std.proofs.Common.{◌≡◌, ℕ, Bool, true, false, List, [], ◌∷◌, find, Option, None, Some, refl, sym, ap, ◌∙◌, subst}
+use Rattle.std.proofs.Common.{◌≡◌, ℕ, Bool, true, List, [], find, Option, None, Some, refl, sym, ap, ◌∙◌, subst}
 use Rattle.std.specs.Prelude.{Contains, unwrap_or}
 use Rattle.std.specs.List.{position}
 use Rattle.std.specs.Option.{option_and_then, option_map}
@@ -46,17 +46,16 @@ use Rattle.au_closing.specs.Bodies.{BodyOf, body_of}
 use Rattle.au_closing.specs.Instances.{Instance, method_at}
 use Rattle.au_closing.specs.Leading as leading
 use Rattle.au_closing.specs.Leading.{Called, at_type, call_leads, called_of, called_standing, kind_of, module_name}
-use Rattle.au_meaning.specs.Views.{Act, Callee, Function, invokes, makes, ships}
+use Rattle.au_meaning.specs.Views.{Act, Function, invokes, makes, ships}
 use Rattle.au_closed_meanings.specs.Generic.{fields_in, function_under, generic_functions, lead_does, linear_in}
 use Rattle.au_closed_meanings.specs.Generic.{names_of_instance, with_names}
 use Rattle.au_closed_meanings.specs.Shipped.{born, shipped_parameters}
 use Rattle.au_closed_meanings.specs.Surroundings.{field_names}
 use Rattle.au_closing_laws.specs.Targets.{Call, calls_listed}
 use Rattle.au_judged_programs.specs.CalledBodiesBodies.{is_function}
-use Rattle.au_caps_types.specs.Heads.{head_of}
 use Rattle.au_caps_lists.specs.Bodies.{Bodied}
 use Rattle.au_caps.specs.Calls as lists
-use Rattle.au_caps.specs.Calls.{a_birth, a_function, a_method, an_instance, calls_of, declared_leads, gives_birth, name_leads}
+use Rattle.au_caps.specs.Calls.{a_birth, a_function, a_method, an_instance, declared_leads, gives_birth, name_leads}
 use Rattle.au_caps.specs.Calls.{standing_leads, type_at, type_in}
 use Rattle.au_caps.specs.Making as making
 use Rattle.au_caps.specs.Making.{BodyMakes, Makes, StandsFor, class_of, constructor_for}

@@ -1,5 +1,5 @@
 -- What the calls of a block lead to, call by call.
-use Rattle.std.proofs.Common.{◌≡◌, List, sym, subst}
+use Rattle.std.proofs.Common.{List, sym, subst}
 use Rattle.std.specs.Prelude.{Contains}
 use Rattle.std.specs.List.{flat_map}
 use Rattle.au_syntax.specs.Plain.{Bytes}

@@ -1,15 +1,15 @@
 -- What is born by expressions, by what the calls in them do.
-use Rattle.std.proofs.Common.{◌≡◌, ℕ, zero, Bool, true, false, List, [], ◌∷◌, ◌++◌, Option, None, Some, length}
+use Rattle.std.proofs.Common.{◌≡◌, ℕ, Bool, true, false, List, [], ◌∷◌, ◌++◌, Option, None, Some, length}
 use Rattle.std.proofs.Common.{refl, map, ℤ, neg_ℤ, arith}
 use Rattle.std.specs.Prelude.{Contains}
 use Rattle.std.proofs.lemmas.List.Elements.{Contains-append_left, Contains-append_right}
 use Rattle.au_base.specs.declared.kinds.IntKind.{IntKind}
 use Rattle.au_effects.specs.Numbers.{compared, computed, negated, truth_in}
-use Rattle.au_effects.specs.Places.{at, name_at}
-use Rattle.au_effects.specs.References.{newer, next_reference, reference_in, referring}
+use Rattle.au_effects.specs.Places.{name_at}
+use Rattle.au_effects.specs.References.{newer, next_reference, reference_in}
 use Rattle.au_effects.specs.Values as values
 use Rattle.au_effects.specs.Values.{Place, made, fields_of}
-use Rattle.au_effects.specs.Worlds.{bears, nothing, opened, opens}
+use Rattle.au_effects.specs.Worlds.{bears, nothing, opened}
 use Rattle.au_ints.specs.Ranges.{is_of_kind}
 use Rattle.au_syntax.specs.declared.expressions.BorrowMode.{BorrowMode}
 use Rattle.au_syntax.specs.Expressions.{Expression, Expressions, Arguments, number, negative, text, truth}
@@ -19,16 +19,15 @@ use Rattle.au_syntax.specs.Expressions.{expressions, no_arguments, arguments}
 use Rattle.au_syntax.specs.Plain.{Bytes}
 use Rattle.au_type_texts.specs.Types.{ClosedType}
 use Rattle.au_closed_trees.specs.Calls.{calls_in, calls_in_all, calls_in_arguments}
-use Rattle.au_meaning.specs.Acts.{access_of, borrowed_place, by_labels, by_position, closed_to, closing, counts_open}
-use Rattle.au_meaning.specs.Acts.{in_store, lends, looks, makes_value, moves, place_of, reads, reference_held, refers}
+use Rattle.au_meaning.specs.Acts.{access_of, borrowed_place, by_labels, by_position, closed_to, closing}
+use Rattle.au_meaning.specs.Acts.{in_store, lends, looks, makes_value, moves, reads, refers}
 use Rattle.au_meaning.specs.Acts.{with_borrow, with_value, frame_in}
-use Rattle.au_meaning.specs.Expressions.{acts, alone, calls, chosen, compared_kind, computes, compares, copies, eval}
+use Rattle.au_meaning.specs.Expressions.{acts, alone, calls, chosen, computes, compares, copies, eval}
 use Rattle.au_meaning.specs.Expressions.{eval_all, eval_named, is_and, is_or, joins, kind_in, labelled, labels, literal}
 use Rattle.au_meaning.specs.Expressions.{looks_into, mentions, names_of, note_of, Operation, operand, operates}
 use Rattle.au_meaning.specs.Expressions.{operation_of, reaches, whole}
-use Rattle.au_meaning.specs.Names.{Scope, Variable, path_numbers, target_behind, variable_of}
-use Rattle.au_meaning.specs.Ticks.{Action, Out, aborts, comes, cut, does, gives, needing, no_rule, pure, tick, where_true}
-use Rattle.au_meaning.specs.Ticks.{◌>>=◌, ◌>>◌}
+use Rattle.au_meaning.specs.Names.{Scope, Variable, variable_of}
+use Rattle.au_meaning.specs.Ticks.{Action, Out, aborts, cut, does, gives, no_rule, pure}
 use Rattle.au_meaning.specs.Views.{Act, Callee, View, invokes, makes, ships}
 use Rattle.au_meaning.specs.Worlds.{Borrow, Event, Store, Value, World}
 use Rattle.au_caps_laws.specs.Bearing.{AreWithin, Bears, BearsTo, IsWithin, StaysWithin, act_in}

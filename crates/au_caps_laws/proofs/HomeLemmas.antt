@@ -1,9 +1,9 @@
 -- The instance that a method of the text is of, as its class and its type are written.
-use Rattle.std.proofs.Common.{◌≡◌, ◌||◌, Bool, true, false, true≢false, cond, List, [], ◌∷◌, map, find, Option, None, Some}
+use Rattle.std.proofs.Common.{◌≡◌, ◌||◌, Bool, true, false, true≢false, cond, List, [], ◌∷◌, find, Option, None, Some}
 use Rattle.std.proofs.Common.{refl, sym, ap, ◌∙◌, subst, ℕ}
-use Rattle.std.specs.Prelude.{Contains, if◌then◌else◌}
+use Rattle.std.specs.Prelude.{Contains}
 use Rattle.std.specs.List.{flat_map}
-use Rattle.std.specs.Option.{option_and_then, option_map, option_or}
+use Rattle.std.specs.Option.{option_map, option_or}
 use Rattle.std.specs.Str.{bytes_eq}
 use Rattle.std.proofs.lemmas.Bool.{and_parts}
 use Rattle.std.proofs.lemmas.List.Elements.{Contains-append_left, Contains-append_right}
@@ -17,15 +17,14 @@ use Rattle.au_syntax.specs.declared.types.Access.TheVariants as access
 use Rattle.au_syntax.specs.Modules.{Constrained, constant, opaque_type, record_type, union_type, function}
 use Rattle.au_syntax.specs.Modules.{class, instance, constant_body, function_body, instance_body}
 use Rattle.au_syntax.specs.Names.{Placed}
-use Rattle.au_syntax.specs.Plain.{Bytes, PlainDeclaration, PlainMethod}
+use Rattle.au_syntax.specs.Plain.{Bytes, PlainDeclaration}
 use Rattle.au_syntax.specs.Types.{WrittenType, named, reference}
 use Rattle.au_types.specs.declared.headings.Head.{Head}
 use Rattle.au_types.specs.declared.parameters.Parameter.{Parameter}
 use Rattle.au_types.specs.declared.types.DeclAt.{DeclAt}
 use Rattle.au_types.specs.declared.types.Region.{Region}
-use Rattle.au_types.specs.Meant.{Given, all_given, alone, applied, arguments_meant, meant, refers, region_of, span_of, span_with}
-use Rattle.au_types.specs.Rows.{head_of, same_place}
-use Rattle.au_types.specs.Senses as senses
+use Rattle.au_types.specs.Meant.{Given, all_given, applied, arguments_meant, meant, refers, region_of, span_of, span_with}
+use Rattle.au_types.specs.Rows.{head_of}
 use Rattle.au_types.specs.Senses.{Sense, a_class, a_region, a_span, a_type, built_in, declared, declared_sense, outer_sense}
 use Rattle.au_types.specs.Senses.{parameter_sense, sense_of}
 use Rattle.au_types.specs.Tables as tables
@@ -33,12 +32,8 @@ use Rattle.au_types.specs.Types as mean
 use Rattle.au_types.specs.Types.{Arguments, Meaning}
 use Rattle.au_types.specs.Universes.{universe_in}
 use Rattle.au_types.proofs.SameLemmas.{place_is}
-use Rattle.au_modules.specs.Programs.{ModuleParts}
-use Rattle.au_names.specs.HeadsOf.{heads_of}
 use Rattle.au_names.proofs.AmongLemmas.{Among}
-use Rattle.au_promises.specs.Agreeing.{Sight, same_class, same_declaration, scope_of}
-use Rattle.au_promises.specs.Mentions.{type_parameters}
-use Rattle.au_promises.specs.Promises.{instance_defined}
+use Rattle.au_promises.specs.Agreeing.{Sight, same_declaration}
 use Rattle.au_promises.specs.Wording.{declaration_of, neither, same_wording, same_written}
 use Rattle.au_judged_types.specs.Meanings.{class_in, class_meant, written_params}
 use Rattle.au_formed.specs.Good.{IsWellMade}
@@ -51,7 +46,7 @@ use Rattle.au_typing.specs.Trees.{NotedDeclaration, NotedMethod, erase_declarati
 use Rattle.au_classes.proofs.ListLemmas.{found_passes}
 use Rattle.au_closing.specs.Bodies.{BodyOf, body_in, is_method, method_body}
 use Rattle.au_closing_laws.proofs.GatheredLemmas.{among_map}
-use Rattle.au_caps_lists.specs.Bodies.{Bodied, Home, bodied_in, method_bodied}
+use Rattle.au_caps_lists.specs.Bodies.{Bodied, bodied_in, method_bodied}
 use Rattle.au_caps.specs.Making.{constructor_in, constructor_written}
 use Rattle.au_caps_laws.specs.Births.{run_as}
 

@@ -1,11 +1,10 @@
 -- The methods that are run by the row of an instance are those of an instance of its class, for its constructor.
-use Rattle.std.proofs.Common.{◌≡◌, ◌⊎◌, inl, inr, ℕ, Bool, true, true≢false, List, [], ◌∷◌, find, Option, None, Some}
+use Rattle.std.proofs.Common.{◌≡◌, ◌⊎◌, inl, inr, ℕ, true, true≢false, List, [], find, Option, None, Some}
 use Rattle.std.proofs.Common.{refl, sym, ap, ◌∙◌, subst}
-use Rattle.std.specs.Prelude.{Contains, slice_get}
-use Rattle.std.specs.Option.{option_and_then, option_map}
+use Rattle.std.specs.Prelude.{slice_get}
+use Rattle.std.specs.Option.{option_and_then}
 use Rattle.std.proofs.lemmas.Bool.{and_parts}
 use Rattle.std.proofs.lemmas.Option.{none-some, same_Some}
-use Rattle.au_base.specs.declared.places.Pos.{Pos}
 use Rattle.au_syntax.specs.declared.modules.Part.{Part}
 use Rattle.au_syntax.specs.declared.modules.Part.TheVariants.{Interface, Body}
 use Rattle.au_syntax.specs.Modules.{Constrained, constant, opaque_type, record_type, union_type, function}
@@ -23,7 +22,6 @@ use Rattle.au_types.specs.Tables as tables
 use Rattle.au_types.specs.Types.{Meaning}
 use Rattle.au_type_texts.specs.Types.{ClosedType}
 use Rattle.au_modules.specs.Programs.{Entry, ModuleParts}
-use Rattle.au_names.specs.declared.targets.Target.{Target}
 use Rattle.au_names.specs.HeadsOf.{heads_of}
 use Rattle.au_names.specs.Meanings.{declared_by}
 use Rattle.au_names.specs.Owned.{declarations_in}
@@ -37,7 +35,7 @@ use Rattle.au_promises.proofs.FulfilledLemmas.{kept_passes}
 use Rattle.au_judged_types.specs.Agreement.{found}
 use Rattle.au_judged_types.specs.Bounds.{parameters}
 use Rattle.au_judged_types.specs.Judging.{judged}
-use Rattle.au_judged_types.specs.Meanings.{class_meant, written_params}
+use Rattle.au_judged_types.specs.Meanings.{written_params}
 use Rattle.au_judged_types.specs.Reasons.{Outcome, fails, means}
 use Rattle.au_judged_types.proofs.AgreementLemmas.{judged_is_meant}
 use Rattle.au_judged_types.proofs.MeaningLemmas.{params_written}
@@ -55,7 +53,7 @@ use Rattle.au_classes.specs.Rows.{rows_of}
 use Rattle.au_classes.proofs.ListLemmas.{found_passes}
 use Rattle.au_typing.specs.Trees.{NotedDeclaration, NotedParts, erase_declaration, erase_program}
 use Rattle.au_typing.specs.Written.{seen_in, types_at}
-use Rattle.au_closing.specs.Bodies.{body_in, body_standing, defining}
+use Rattle.au_closing.specs.Bodies.{body_in, body_standing}
 use Rattle.au_closing_laws.proofs.DefinitionLemmas.{listed_at}
 use Rattle.au_closing_laws.proofs.GenericsLemmas.{made_there}
 use Rattle.au_closing_laws.proofs.SameLemmas.{class_found, declared_class, same_params}
@@ -64,7 +62,6 @@ use Rattle.au_closing_laws.proofs.TextLemmas.{IsDefined, IsPromised}
 use Rattle.au_judged_programs.proofs.ShippedMethodFoundLemmas.{IsFound}
 use Rattle.au_caps_lists.specs.Bodies.{Bodied, Home, sense_in}
 use Rattle.au_caps.specs.Making.{class_named, class_of, constructor_for, constructor_written}
-use Rattle.au_caps_laws.specs.Births.{run_as}
 use Rattle.au_caps_laws.proofs.DefinedLemmas.{IsDefinedBy, defined_by, placed_there}
 use Rattle.au_caps_laws.proofs.HomeLemmas.{HomeIs, MeansSome, constructor_meant, header_named, home_there, home_written}
 use Rattle.au_caps_laws.proofs.HomeLemmas.{means_some, same_declared, written_constructor}

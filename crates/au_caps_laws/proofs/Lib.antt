@@ -15,3 +15,5 @@ pub mod PrimLemmas
 pub mod KnowsLemmas
 pub mod ReportLemmas
 pub mod AcceptedLemmas
+pub mod TextLemmas
+pub mod ReachLemmas

@@ -1,5 +1,5 @@
 -- The types of calls that make values of records and unions are declared ones.
-use Rattle.std.proofs.Common.{◌≡◌, ℕ, List, [], map, find, Option, None, Some, refl, sym, ap, ◌∙◌, subst}
+use Rattle.std.proofs.Common.{◌≡◌, List, map, find, Option, None, Some, sym, ap, ◌∙◌, subst}
 use Rattle.std.specs.Prelude.{Contains}
 use Rattle.std.specs.Option.{option_map}
 use Rattle.std.proofs.lemmas.Option.{none-some, same_Some}
@@ -28,7 +28,7 @@ use Rattle.au_typing.specs.Trees.{NotedParts}
 use Rattle.au_typing.specs.Written.{all_typed, seen_at}
 use Rattle.au_outcomes.specs.Faults.{IsDerived}
 use Rattle.au_closing.specs.Bodies.{BodyOf, body_of}
-use Rattle.au_closing_laws.specs.Calls.{IsGoodIn, outside_at}
+use Rattle.au_closing_laws.specs.Calls.{IsGoodIn}
 use Rattle.au_closing_laws.specs.Targets.{Call, calls_listed}
 use Rattle.au_closing_laws.proofs.BodyLemmas.{call_good}
 use Rattle.au_caps_laws.proofs.BoundLemmas.{IsNamed}

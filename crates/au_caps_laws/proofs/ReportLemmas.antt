@@ -1,6 +1,5 @@
 -- In a checked program what is born is made, and the report says so.
-use Rattle.std.proofs.Common.{◌≡◌, ◌⊎◌, inl, inr, ℕ, List, [], ◌∷◌, Some, refl, sym, subst}
-use Rattle.std.specs.Prelude.{Contains}
+use Rattle.std.proofs.Common.{inl, inr, List, [], ◌∷◌, refl, subst}
 use Rattle.au_effects.specs.Worlds.{born}
 use Rattle.au_type_texts.specs.Types.{ClosedType}
 use Rattle.au_modules.specs.Programs.{ModuleParts}
@@ -16,12 +15,11 @@ use Rattle.au_caps_text.specs.declared.reports.Row.{Row}
 use Rattle.au_caps_lists.specs.Bodies.{Bodied, all_bodied}
 use Rattle.au_caps.specs.Reports.{AreRowsOf, IsReportOf, IsRowOf, no_rows, rows}
 use Rattle.au_caps_laws.specs.Bearing.{AreWithin, Bears, BearsTo, IsWithin}
-use Rattle.au_caps_laws.specs.Births.{BirthsAreMade, MayBear, head_closed}
+use Rattle.au_caps_laws.specs.Births.{BirthsAreMade, MayBear}
 use Rattle.au_caps_laws.specs.Laws.{RunBearsWithin}
 use Rattle.au_caps_laws.specs.Reported.{IsInRow, RunsAreReported}
 use Rattle.au_caps_laws.proofs.BoundLemmas.{MayMake, bounds_hold}
 use Rattle.au_caps_laws.proofs.KnowsLemmas.{knows_all}
-use Rattle.au_caps_laws.proofs.RunForLemmas.{IsRunAt}
 use Rattle.au_caps_laws.proofs.RunLemmas.{calls_bear_within, runs_bear_within}
 
 -- ---- more types

@@ -1,13 +1,11 @@
 -- What is born by statements, bodies and calls.
-use Rattle.std.proofs.Common.{◌≡◌, ℕ, zero, suc, ◌+◌, ◌-◌, ◌==◌, Bool, true, false, List, [], ◌∷◌, ◌++◌}
-use Rattle.std.proofs.Common.{Option, None, Some, length, refl, sym, ap, ◌∙◌, if◌then◌else◌, ℤ, pos, ◌+ℤ◌, int_lt, codes}
+use Rattle.std.proofs.Common.{◌≡◌, ℕ, zero, suc, ◌+◌, ◌==◌, Bool, true, false, List, [], ◌∷◌, ◌++◌}
+use Rattle.std.proofs.Common.{Option, None, Some, length, refl, if◌then◌else◌, ℤ, pos, ◌+ℤ◌, int_lt}
 use Rattle.au_base.specs.declared.kinds.IntKind.{IntKind}
 use Rattle.au_effects.specs.Numbers.{number_in, same_kind}
-use Rattle.au_effects.specs.Parts.{along}
 use Rattle.au_effects.specs.Places.{exchanged}
 use Rattle.au_effects.specs.Values as values
-use Rattle.au_effects.specs.Values.{Place, listed}
-use Rattle.au_effects.specs.Worlds.{born, nothing, spends}
+use Rattle.au_effects.specs.Values.{Place}
 use Rattle.au_syntax.specs.declared.expressions.BorrowMode.{BorrowMode}
 use Rattle.au_syntax.specs.Expressions.{Expression}
 use Rattle.au_syntax.specs.Plain.{Bytes}
@@ -18,26 +16,25 @@ use Rattle.au_syntax.specs.Statements.{no_statements, statements, no_branches, b
 use Rattle.au_syntax.specs.Types.{Bound}
 use Rattle.au_type_texts.specs.Types.{ClosedType}
 use Rattle.au_closed_trees.specs.Calls.{calls_in, calls_in_arms, calls_in_block, calls_in_branches, calls_in_statement}
-use Rattle.au_meaning.specs.Acts.{apart, begins, bound_counted, closed_to, emptied, ends_frame, holds, in_store}
+use Rattle.au_meaning.specs.Acts.{apart, begins, emptied, ends_frame}
 use Rattle.au_meaning.specs.Acts.{new_names, place_of, puts, sets, stored, tells_apart, with_value, with_values}
-use Rattle.au_meaning.specs.Expressions.{chosen, names_of, note_of, reaches, whole}
-use Rattle.au_meaning.specs.Meanings.{begun, call_at, enters, first_world, mean, parameters_of, returned, root_born}
+use Rattle.au_meaning.specs.Expressions.{names_of, note_of, whole}
+use Rattle.au_meaning.specs.Meanings.{begun, call_at, enters, first_world, parameters_of, returned, root_born}
 use Rattle.au_meaning.specs.Meanings.{scope_of, seen}
-use Rattle.au_meaning.specs.Names.{Scope, Variable, mode_of, names_in, names_in_block, names_in_tests, path_numbers}
-use Rattle.au_meaning.specs.Names.{variable_of, with_bound, with_reference}
+use Rattle.au_meaning.specs.Names.{Scope, Variable, mode_of, names_in, names_in_block, names_in_tests}
+use Rattle.au_meaning.specs.Names.{variable_of}
 use Rattle.au_meaning.specs.Statements.{Flow, after, and_then, assigns, assigns_behind, binds_borrow, binds_fields}
 use Rattle.au_meaning.specs.Statements.{both_numbers, either, emptying, empties, falls, fields_noted, fields_told, for_turns}
 use Rattle.au_meaning.specs.Statements.{lending, means_case, ranges, returns, run, run_all, run_arms, run_block, run_tests}
 use Rattle.au_meaning.specs.Statements.{takes_apart, while_turns, with_counter, within}
-use Rattle.au_meaning.specs.Ticks.{Action, Out, aborts, cut, does, follows, found_in, gives, no_rule, pure, tick, where_true, ◌>>=◌, ◌>>◌}
+use Rattle.au_meaning.specs.Ticks.{Action, Out, aborts, cut, does, follows, found_in, gives, no_rule, pure, ◌>>=◌}
 use Rattle.au_meaning.specs.Views.{Act, Field, Function, View}
-use Rattle.au_meaning.specs.Worlds.{Event, Outcome, Store, Value, World}
-use Rattle.au_caps_laws.specs.Bearing.{AreBounds, AreWithin, Bears, BearsTo, StaysWithin, acts_in}
+use Rattle.au_meaning.specs.Worlds.{Store, Value, World}
+use Rattle.au_caps_laws.specs.Bearing.{AreBounds, BearsTo}
 use Rattle.au_caps_laws.specs.Laws.{CallsBearWithin, IsRootAlone, RunBearsWithin, RunsBearWithin, no_root, the_root}
-use Rattle.au_caps_laws.proofs.BearLemmas.{FoundBears, Keeps, and_keeps, asks_keeps, bears_out, bears_same, bears_spends, does_keeps}
+use Rattle.au_caps_laws.proofs.BearLemmas.{FoundBears, Keeps, and_keeps, asks_keeps, bears_same, bears_spends, does_keeps}
 use Rattle.au_caps_laws.proofs.BearLemmas.{needing_keeps, over_keeps, pure_keeps, stuck_keeps, takes_keeps, then_keeps}
 use Rattle.au_caps_laws.proofs.BearLemmas.{tick_keeps, where_keeps}
-use Rattle.au_caps_laws.proofs.EvalLemmas as eval
 use Rattle.au_caps_laws.proofs.EvalLemmas.{Stay, chosen_keeps, closed_keeps, closing_keeps, eval_keeps, leads, left_stay}
 use Rattle.au_caps_laws.proofs.EvalLemmas.{lends_keeps, reaches_keeps, right_stay, value_keeps, whole_keeps}
 use Rattle.au_caps_laws.proofs.ShipLemmas.{apart_bears, exchanged_bears, put_bears}
@@ -142,7 +139,7 @@ module _ (P : ClosedType → Type 0) where
   apart_keeps (values.truth b) = stuck_keeps P _
   apart_keeps (values.number kind z) = stuck_keeps P _
   apart_keeps (values.text t) = stuck_keeps P _
-  apart_keeps (values.made tag birth fields) =
+  apart_keeps (values.made tag birth parts) =
       and_keeps P _ _ (does_keeps P _ (λ w. bears_spends P birth w.store)) (pure_keeps P _)
   apart_keeps (values.reference borrow place) = stuck_keeps P _
   apart_keeps (values.box id) = stuck_keeps P _

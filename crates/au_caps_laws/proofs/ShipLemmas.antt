@@ -1,6 +1,6 @@
 -- What is born by what is done to the store.
-use Rattle.std.proofs.Common.{◌≡◌, ℕ, zero, suc, ◌-◌, Bool, true, false, List, [], ◌∷◌, ◌++◌, Option, None, Some}
-use Rattle.std.proofs.Common.{length, take, slice_get, pos, refl, ap, ◌∙◌}
+use Rattle.std.proofs.Common.{◌≡◌, ℕ, ◌-◌, List, [], ◌∷◌, ◌++◌, Option, None, Some}
+use Rattle.std.proofs.Common.{length, slice_get, pos, refl, ap, ◌∙◌}
 use Rattle.au_base.specs.declared.kinds.IntKind.TheVariants.{Index, Nat8}
 use Rattle.au_effects.specs.Answers as answer
 use Rattle.au_effects.specs.Answers.{Answer}
@@ -13,12 +13,11 @@ use Rattle.au_effects.specs.Places.{at, base_at, base_set, content_in, exchanged
 use Rattle.au_effects.specs.References.{put_behind, read_behind, reference_in}
 use Rattle.au_effects.specs.Values as values
 use Rattle.au_effects.specs.Values.{Base, Place, name_of, content_of}
-use Rattle.au_effects.specs.Worlds.{Held, bears, born, consumed, ends, spends, tells, used}
+use Rattle.au_effects.specs.Worlds.{Held, bears, born, consumed, ends, tells, used}
 use Rattle.au_shipped.specs.declared.prims.ShippedCall.{ShippedCall}
 use Rattle.au_shipped.specs.declared.prims.ShippedCall.TheVariants as prim
 use Rattle.au_type_texts.specs.Types.{ClosedType}
-use Rattle.au_meaning.specs.Acts.{answered, heard, in_store, next_byte, operation, other_bytes, shipped_by, ships_call, told}
-use Rattle.au_meaning.specs.Ticks.{Action, comes}
+use Rattle.au_meaning.specs.Acts.{answered, heard, next_byte, operation, other_bytes, shipped_by, ships_call, told}
 use Rattle.au_meaning.specs.Worlds.{Store, Value, World}
 use Rattle.au_caps_laws.specs.Bearing.{Bears, BearsTo}
 use Rattle.au_caps_laws.proofs.BearLemmas.{FoundBears, Keeps, bears_as, bears_one, bears_same, bears_spends}
@@ -77,7 +76,7 @@ module _ (P : ClosedType → Type 0) where
   apart_bears (values.truth b) s = tt
   apart_bears (values.number kind z) s = tt
   apart_bears (values.text t) s = tt
-  apart_bears (values.made tag birth fields) s = bears_spends P birth s
+  apart_bears (values.made tag birth parts) s = bears_spends P birth s
   apart_bears (values.reference borrow place) s =
       case_bears (borrow, place) s (read_behind (borrow, place) s) (read_bears (borrow, place) s)
   apart_bears (values.box id) s = tt

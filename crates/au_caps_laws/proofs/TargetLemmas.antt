@@ -1,6 +1,6 @@
 -- What a name means that is called in a body has the name under which it is declared.
 use Rattle.std.proofs.Common.{◌≡◌, ◌⊎◌, inl, inr, ℕ, ◌+◌, Bool, true, false, true≢false, cond, List, [], ◌∷◌, ◌++◌}
-use Rattle.std.proofs.Common.{map, Option, None, Some, refl, sym, ap, ◌∙◌, subst, arith}
+use Rattle.std.proofs.Common.{Option, None, Some, refl, sym, ap, ◌∙◌, subst, arith}
 use Rattle.std.specs.Prelude.{filter, find, nat_lt, slice_get}
 use Rattle.std.specs.Option.{option_map}
 use Rattle.std.specs.Str.{bytes_eq}
@@ -12,7 +12,6 @@ use Rattle.au_syntax.specs.Names.{Renaming}
 use Rattle.au_syntax.specs.Plain.{Bytes, PlainDeclaration}
 use Rattle.au_syntax.specs.Sizes.{joined}
 use Rattle.au_types.specs.declared.spaces.Space.TheVariants.{Callables}
-use Rattle.au_types.specs.declared.types.DeclAt.{DeclAt}
 use Rattle.au_types.specs.DeclaredNames.{callable_names, given, names_in, numbered}
 use Rattle.au_types.specs.Tables as tables
 use Rattle.au_types.proofs.TableLemmas.{find-firsts}

@@ -1,5 +1,5 @@
 -- What may be born while a function or method is run, by what its text may make.
-use Rattle.std.specs.Prelude.{◌≡◌, ℕ, List, [], Option, None, Some, Contains}
+use Rattle.std.specs.Prelude.{◌≡◌, ℕ, List, Option, None, Some, Contains}
 use Rattle.au_syntax.specs.Plain.{Bytes}
 use Rattle.au_type_texts.specs.Types.{ClosedType, named}
 use Rattle.au_modules.specs.Programs.{ModuleParts}

@@ -6,3 +6,5 @@ pub mod Bearing
 pub mod Laws
 pub mod Births
 pub mod Reported
+pub mod Texts
+pub mod Reach
