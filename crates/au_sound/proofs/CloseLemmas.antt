@@ -23,6 +23,7 @@ use Rattle.au_sound_blocks.specs.Safe.{AllWait, frame}
 use Rattle.au_sound_blocks.proofs.WaitLemmas.{all_more, frames_stay}
 use Rattle.au_sound_blocks.specs.Flows.{IsBottom, tokens}
 use Rattle.au_sound_blocks.proofs.StateLemmas.{more_active}
+use Rattle.au_sound_blocks.specs.Held.{Permits}
 
 -- ---- borrows are closed in two steps
 
@@ -104,8 +105,9 @@ newest_off a older sorted = by (is_active older a.token) refl
 
 -- ---- all tokens of a frame
 
-module _ (types : Types) (owner : ClosedType → Option (List ℕ)) (laws : ActionsAreSafe types owner) (below : List Act)
-    (base : Lying) (fs : List Frame) (sizes : List ℕ) (waiting : AllWait (is_active below) fs) where
+module _ (types : Types) (owner : ClosedType → Option (List ℕ)) {V W : Type 0} (permits : Permits V W)
+    (laws : ActionsAreSafe types owner) (below : List Act)
+    (base : Lying) (fs : List Frame) (sizes : List ℕ) (waiting : AllWait permits (is_active below) fs) where
   -- the newest one ends
   one_ended : (a : Act) (own : List Act) (hold : Standing) (names : Names) (made : Made) (n : World)
       → IsIn types owner (a ∷ (own ++ below)) (frame hold names ∷ fs) sizes made n

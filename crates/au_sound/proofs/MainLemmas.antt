@@ -9,21 +9,23 @@ use Rattle.au_meaning.specs.Meanings.{begun, call_at, first_world, parameters_of
 use Rattle.au_meaning.specs.Ticks.{Out, aborts, cut, gives, no_rule}
 use Rattle.au_meaning.specs.Views.{Field, Function}
 use Rattle.au_meaning.specs.Worlds.{Value, World}
-use Rattle.au_safe_ships.specs.Good.{Good, IsIn, lying_in}
+use Rattle.au_safe_ships.specs.Good.{IsIn, lying_in}
 use Rattle.au_sound_blocks.specs.Blocks.{AllRun}
 use Rattle.au_sound_blocks.specs.Known.{AreActive, Callables}
 use Rattle.au_sound_blocks.proofs.LoopLemmas.{good_does}
 use Rattle.au_safe_ships.specs.Beginning.{IsExitOf}
 use Rattle.au_sound.specs.Runs.{EndsWell, IsSeenWell, RunsAreSafe, RunsWell, TakesRoot}
 use Rattle.au_sound.proofs.CallLemmas.{calls_at_safe}
+use Rattle.au_sound_blocks.specs.Held.{GoodHeld, Permits}
 
-module _ (types : Types) (owner : ClosedType → Option (List ℕ)) (laws : RunsAreSafe types owner) where
+module _ (types : Types) (owner : ClosedType → Option (List ℕ)) {V W : Type 0} (permits : Permits V W)
+    (laws : RunsAreSafe types owner) where
   -- the value of an entry under way, and nothing else
   abbrev Gave : Meaning → Value → World → Type 0
   Gave t v n = IsIn types owner [] [] [] ((v, t) ∷ []) n × (lying_in n ≡ [])
 
   -- what comes of an entry is seen well
-  seen_well : (t : Meaning) → IsExitOf types t → (ticks : ℕ) (out : Out Value) → Good owner (Gave t) out
+  seen_well : (t : Meaning) → IsExitOf types t → (ticks : ℕ) (out : Out Value) → GoodHeld types owner permits (Gave t) out
       → IsSeenWell owner (seen ticks out)
   seen_well t exits ticks (gives v n left) good =
       let told = laws.steps.actions.told [] [] [] ((v, t) ∷ []) n good.0 in
@@ -42,22 +44,22 @@ module _ (types : Types) (owner : ClosedType → Option (List ℕ)) (laws : Runs
   seen_well t exits ticks (no_rule n left) good = absurd good
 
   module _ {I T C K : Type 0} (known : Callables I K) (functions : I → Option (Function I T C))
-      (all : AllRun types owner known functions) (key : K) (open_none : known.tokens key ≡ []) (depth : ℕ) where
+      (all : AllRun types owner permits known functions) (key : K) (open_none : known.tokens key ≡ []) (depth : ℕ) where
     none_active : (active : ℕ → Bool) → AreActive active (known.tokens key)
     none_active active = subst (AreActive active) (sym open_none) tt
 
     begun_good : (ts : List Meaning) (ps : List Field) → TakesRoot types owner ts ps → ts ≡ known.parameters key
         → (input : List ℕ) (ticks : ℕ)
-        → Good owner (Gave (known.result key)) (begun ps (call_at functions depth (known.of key)) (first_world input) ticks)
+        → GoodHeld types owner permits (Gave (known.result key)) (begun ps (call_at functions depth (known.of key)) (first_world input) ticks)
     begun_good [] [] takes same input ticks =
-        calls_at_safe types owner laws known functions all depth key [] [] [] [] [] (first_world input) ticks
+        calls_at_safe types owner permits laws known functions all depth key [] [] [] [] [] (first_world input) ticks
         (none_active (is_active [])) tt refl same (laws.starts types owner input)
     begun_good [] (p ∷ ps) takes same input ticks = absurd takes
     begun_good (t ∷ []) [] takes same input ticks = absurd takes
     begun_good (t ∷ []) (p ∷ []) takes same input ticks =
         good_does owner (Gave (known.result key)) (root_born p.of)
         (call_at functions depth (known.of key) (root 0 ∷ [])) (first_world input) ticks
-        (calls_at_safe types owner laws known functions all depth key [] [] [] ((root 0, t) ∷ []) []
+        (calls_at_safe types owner permits laws known functions all depth key [] [] [] ((root 0, t) ∷ []) []
         (root_born p.of (first_world input)) ticks (none_active (is_active [])) tt refl same
         (laws.rooted [] [] [] [] (first_world input) t p.of takes.0 takes.1 (laws.starts types owner input)))
     begun_good (t ∷ []) (p ∷ r ∷ ps) takes same input ticks = absurd takes

@@ -23,7 +23,7 @@ use Rattle.au_meaning.specs.Statements.{means_case, ranges, returns, while_turns
 use Rattle.au_meaning.specs.Ticks.{Action, does, pure, tick, ◌>>=◌, ◌>>◌}
 use Rattle.au_meaning.specs.Views.{View}
 use Rattle.au_meaning.specs.Worlds.{Value, World}
-use Rattle.au_sound_expressions.specs.Good.{Good, IsIn, IsRunning, lying_in}
+use Rattle.au_sound_expressions.specs.Good.{IsIn, IsRunning, lying_in}
 use Rattle.au_sound_expressions.proofs.GoodLemmas.{good_then}
 use Rattle.au_sound_expressions.specs.Blocks.{IsFine, MayDrop, Names}
 use Rattle.au_sound_expressions.specs.Expressions.{Borrows}
@@ -43,18 +43,20 @@ use Rattle.au_sound_blocks.proofs.FrameLemmas.{put_each_way}
 use Rattle.au_sound_blocks.proofs.StateLemmas.{Ends, Goes, ends_then, good_falls}
 use Rattle.au_sound_blocks.proofs.StateLemmas.{more_active, ticks_on}
 use Rattle.au_sound_blocks.proofs.LoopLemmas.{good_lending}
+use Rattle.au_sound_blocks.specs.Held.{GoodHeld, Permits}
 
-module _ (types : Types) (owner : ClosedType → Option (List ℕ)) (laws : StepsAreSafe types owner) (loose : ℕ → Bool)
+module _ (types : Types) (owner : ClosedType → Option (List ℕ)) {V W : Type 0} (permits : Permits V W)
+    (laws : StepsAreSafe types owner) (key : V) (loose : ℕ → Bool)
     (result : Meaning) (below : List Act) (base : Lying) (fs : List Frame) (sizes : List ℕ) (size : ℕ)
     (running : IsRunning sizes fs size) {I T C K : Type 0} (see : View I T C) (known : Callables I K)
-    (invoke : I → List Value → Action Value) (calls_safe : CallsSafe types owner known invoke)
-    (waiting : AllWait (is_active below) fs) where
+    (invoke : I → List Value → Action Value) (calls_safe : CallsSafe types owner permits known invoke)
+    (waiting : AllWait permits (is_active below) fs) where
   abbrev Gos : List Act → ℕ → Standing → Names → Made → World → Type 0
-  Gos own number h names under w = Goes types owner laws loose result below base fs sizes size running own number h names under w
+  Gos own number h names under w = Goes types owner permits laws key loose result below base fs sizes size running own number h names under w
 
   abbrev Ending : List Act → (kept next : ℕ) → Names → (Standing → Type 0) → (Names → Type 0) → Made → Flow → World → Type 0
   Ending own kept next before A R under flow w =
-      Ends types owner laws loose result below base fs sizes size running own kept next before A R under flow w
+      Ends types owner permits laws key loose result below base fs sizes size running own kept next before A R under flow w
 
   -- ---- a variable is lent
 
@@ -66,27 +68,27 @@ module _ (types : Types) (owner : ClosedType → Option (List ℕ)) (laws : Step
       (under : Made) (w : World) (ticks : ℕ) → IsReadable (h x.number) → AreReady h (λ k. where_of k (Some x) (borrowed_by m))
       → Borrows types owner see known names a.token (is_active acts) m (Some x) of
       → IsIn types owner (a ∷ acts) (frame h names ∷ fs) sizes under w
-      → Good owner
+      → GoodHeld types owner permits
       (λ (v : Value) n. IsIn types owner (a ∷ acts) (frame (lending m a.token (Some x) h) names ∷ fs) sizes
       ((v, of) ∷ under) n) (lends m x.number w ticks)
   lent_good mode.Write x a acts of h names under w ticks is met fits state =
-      subst (λ (u : Meaning). Good owner
+      subst (λ (u : Meaning). GoodHeld types owner permits
       (λ (v : Value) n. IsIn types owner (a ∷ acts) (frame (lending mode.Write a.token (Some x) h) names ∷ fs) sizes
       ((v, u) ∷ under) n) (lends mode.Write x.number w ticks)) (sym fits)
       (laws.actions.lent (a ∷ acts) (frame h names) fs sizes size under w ticks running a acts refl x.number
       (is_ready (h x.number) (ready.lends (stand (h x.number)) unmentioned
       (met_one x (borrowed_by mode.Write) h met)).0) state)
   lent_good mode.Read x a acts of h names under w ticks is met fits state =
-      subst (λ (u : Meaning). Good owner
+      subst (λ (u : Meaning). GoodHeld types owner permits
       (λ (v : Value) n. IsIn types owner (a ∷ acts) (frame (lending mode.Read a.token (Some x) h) names ∷ fs) sizes
       ((v, u) ∷ under) n) (lends mode.Read x.number w ticks)) (sym fits)
       (laws.actions.read (a ∷ acts) (frame h names) fs sizes size under w ticks running a acts refl x.number is state)
   lent_good mode.Reborrow x a acts of h names under w ticks is met fits state =
-      subst (λ (u : Meaning). Good owner
+      subst (λ (u : Meaning). GoodHeld types owner permits
       (λ (v : Value) n. IsIn types owner (a ∷ acts) (frame (lending mode.Reborrow a.token (Some x) h) names ∷ fs) sizes
       ((v, u) ∷ under) n) (lends mode.Reborrow x.number w ticks)) (sym fits.4) (by fits.3)
     where
-      by : InScope (is_active acts) fits.1 → Good owner
+      by : InScope (is_active acts) fits.1 → GoodHeld types owner permits
           (λ (v : Value) n. IsIn types owner (a ∷ acts) (frame (lending mode.Reborrow a.token (Some x) h) names ∷ fs) sizes
           ((v, writes fits.0 (token a.token)) ∷ under) n) (lends mode.Reborrow x.number w ticks)
       by (inl static) =
@@ -121,12 +123,12 @@ module _ (types : Types) (owner : ClosedType → Option (List ℕ)) (laws : Step
   closed_on : (a : Act) (own : List Act) (number : ℕ) (names before : Names) (A : Standing → Type 0) (R S : Names → Type 0)
       (under : Made) (count : ℕ) (n : World) (left : ℕ) → count ≡ length a.base → is_active (own ++ below) a.token ≡ false
       → S before
-      → Fell types owner loose result below base fs sizes size (a ∷ own) number number before
+      → Fell types owner permits key loose result below base fs sizes size (a ∷ own) number number before
       (λ f. A (λ k. freed a.token (f k))) (λ ns. ns ≡ before) under n
-      → Good owner (Ending own number number before A S under) (tick (does (closed_to count) >> pure falls) n left)
+      → GoodHeld types owner permits (Ending own number number before A S under) (tick (does (closed_to count) >> pure falls) n left)
   closed_on a own number names before A R S under count n left is off says fell =
       let z = a.token in
-      ticks_on types owner laws loose result below base fs sizes size running (Ending own number number before A S under)
+      ticks_on types owner permits laws key loose result below base fs sizes size running (Ending own number number before A S under)
       (does (closed_to count) >> pure falls) (a ∷ own) number fell.hold fell.names under n left fell.going
       (λ more. good_falls owner (Ending own number number before A S under) (closed_to count) n more (record {
         hold = λ k. freed a.token (fell.hold k);
@@ -165,13 +167,13 @@ module _ (types : Types) (owner : ClosedType → Option (List ℕ)) (laws : Step
       → AreReady h (λ k. where_of k o (borrowed_by m)) → S names → number + 1 ≤ size
       → ((a : Act) → is_active (own ++ below) a.token ≡ false → (of : Meaning)
       × Borrows types owner see known names a.token (is_active (own ++ below)) m o of
-      × IsFine types owner see known result loose number of
+      × IsFine types loose permits key number of
       × ((n : World) (left : ℕ) → ((k : ℕ) → freed a.token (h k) ≡ h k)
       → Gos (a ∷ own) (number + 1) (put number forest.ready (lending m a.token o h)) (put number of names) under n
-      → Good owner (Ending (a ∷ own) number number names (λ f. A (λ k. freed a.token (f k))) (λ ns. ns ≡ names) under)
+      → GoodHeld types owner permits (Ending (a ∷ own) number number names (λ f. A (λ k. freed a.token (f k))) (λ ns. ns ≡ names) under)
       (block n left)))
       → Gos own number h names under w
-      → Good owner (Ending own number number names A S under)
+      → GoodHeld types owner permits (Ending own number number names A S under)
       (statement.lending (binds_borrow number m o) block w ticks)
   borrow_in_safe m None number own A S h names under w ticks block met says room fits going =
       let begun = laws.actions.begun (own ++ below) (frame h names ∷ fs) sizes under w going.state in
@@ -197,7 +199,7 @@ module _ (types : Types) (owner : ClosedType → Option (List ℕ)) (laws : Step
       (λ (u : Unit {0}) n. Gos (a ∷ own) (number + 1) (put number forest.ready (lending m a.token (Some x) h))
       (put number fit.0 names) under n) q (tick (binds_borrow number m (Some x)) w ticks)
       (λ u. block >>= and_then (tick (does (closed_to (length w.borrows)) >> pure falls)))
-      (ticks_on types owner laws loose result below base fs sizes size running
+      (ticks_on types owner permits laws key loose result below base fs sizes size running
       (λ (u : Unit {0}) n. Gos (a ∷ own) (number + 1) (put number forest.ready (lending m a.token (Some x) h))
       (put number fit.0 names) under n) (binds_borrow number m (Some x)) (a ∷ own) number h names under w ticks started
       (λ left.
@@ -208,11 +210,11 @@ module _ (types : Types) (owner : ClosedType → Option (List ℕ)) (laws : Step
       (put number fit.0 names) under n) (lends m x.number w left) (holds number)
       (lent_good m x a (own ++ below) fit.0 h names under w left is met fit.1 begun.2)
       (λ v n more state.
-      held_on types owner laws loose result below base fs sizes size running see known invoke calls_safe waiting (a ∷ own)
+      held_on types owner permits laws key loose result below base fs sizes size running see known invoke calls_safe waiting (a ∷ own)
       number fit.0 (lending m a.token (Some x) h) names under v n room fit.2
       (lent_on a (fit.0) v n is begun.1 going.bottom started.waits state))))
       (λ u n left on.
-      ends_then types owner laws loose result below base fs sizes size running (a ∷ own) own number number number number
+      ends_then types owner permits laws key loose result below base fs sizes size running (a ∷ own) own number number number number
       names names (λ f. A (λ k. freed a.token (f k))) A (λ ns. ns ≡ names) S under block
       (tick (does (closed_to (length w.borrows)) >> pure falls)) n left
       (fit.3 n left (λ k. fresh (is_active (own ++ below)) a.token (h k) (going.waits k) begun.1) on)

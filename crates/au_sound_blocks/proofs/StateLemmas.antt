@@ -20,7 +20,7 @@ use Rattle.au_meaning.specs.Ticks.{Action, does, follows, found_in, pure, tick}
 use Rattle.au_meaning.specs.Ticks.{◌>>=◌, ◌>>◌}
 use Rattle.au_meaning.specs.Views.{View}
 use Rattle.au_meaning.specs.Worlds.{Store, Value, World}
-use Rattle.au_sound_expressions.specs.Good.{Good, IsIn, IsRunning, lying_in}
+use Rattle.au_sound_expressions.specs.Good.{GoodBy, IsIn, IsRunning, lying_in}
 use Rattle.au_sound_expressions.proofs.GoodLemmas.{good_so, good_then, good_tick}
 use Rattle.au_sound_expressions.specs.Blocks.{IsWholeOf, MayDrop, Names}
 use Rattle.au_sound_expressions.specs.Expressions.{IsOf}
@@ -34,19 +34,20 @@ use Rattle.au_sound_blocks.specs.Flows.{Fell, Flows, Going, IsBottom}
 use Rattle.au_sound_blocks.specs.Steps.{StepsAreSafe}
 use Rattle.au_sound_blocks.proofs.FrameLemmas.{each_after, each_before, each_in, each_way, frame_emptied}
 use Rattle.au_sound_blocks.proofs.FrameLemmas.{spent_empty, waits_spent}
+use Rattle.au_sound_blocks.specs.Held.{GoodHeld, Permits}
 
 -- ---- actions that change the store alone
 
 -- the world becomes another, and the statement falls through
-pub good_falls : (owner : ClosedType → Option (List ℕ)) (q : Flow → World → Type 0) (change : World → World) (w : World)
-    (ticks : ℕ) → q falls (change w) → Good owner q ((does change >> pure falls) w ticks)
+pub good_falls : {cuts : World → Type 0} (owner : ClosedType → Option (List ℕ)) (q : Flow → World → Type 0) (change : World → World) (w : World)
+    (ticks : ℕ) → q falls (change w) → GoodBy owner cuts q ((does change >> pure falls) w ticks)
 unfolding follows
 good_falls owner q change w ticks good = good
 
 -- the borrows that lie open stay
-pub good_stored : {A : Type 0} (owner : ClosedType → Option (List ℕ)) (q : A → World → Type 0) (o : Option (A × Store))
-    (w : World) (ticks : ℕ) → Good owner q (found_in (stored o w) w ticks)
-    → Good owner (λ (v : A) n. q v n × (lying_in n ≡ lying_in w)) (found_in (stored o w) w ticks)
+pub good_stored : {A : Type 0} {cuts : World → Type 0} (owner : ClosedType → Option (List ℕ)) (q : A → World → Type 0) (o : Option (A × Store))
+    (w : World) (ticks : ℕ) → GoodBy owner cuts q (found_in (stored o w) w ticks)
+    → GoodBy owner cuts (λ (v : A) n. q v n × (lying_in n ≡ lying_in w)) (found_in (stored o w) w ticks)
 good_stored owner q None w ticks good = absurd good
 good_stored owner q (Some pair) w ticks good = (good, refl)
 
@@ -60,21 +61,22 @@ more_active (a ∷ own) below z is = by (a.token == z) (more_active own below z 
     by true rest = refl
     by false rest = rest
 
-module _ (types : Types) (owner : ClosedType → Option (List ℕ)) (laws : StepsAreSafe types owner) (loose : ℕ → Bool)
+module _ (types : Types) (owner : ClosedType → Option (List ℕ)) {V W : Type 0} (permits : Permits V W)
+    (laws : StepsAreSafe types owner) (key : V) (loose : ℕ → Bool)
     (result : Meaning) (below : List Act) (base : Lying) (fs : List Frame) (sizes : List ℕ) (size : ℕ)
     (running : IsRunning sizes fs size) where
   abbrev pub Goes : List Act → ℕ → Standing → Names → Made → World → Type 0
-  Goes own number h names under w = Going types owner loose result below base fs sizes size own number h names under w
+  Goes own number h names under w = Going types owner permits key loose result below base fs sizes size own number h names under w
 
   abbrev pub Ends : List Act → (kept next : ℕ) → Names → (Standing → Type 0) → (Names → Type 0) → Made → Flow → World
       → Type 0
   Ends own kept next before A R under flow w =
-      Flows types owner loose result below base fs sizes size own kept next before A R under flow w
+      Flows types owner permits key loose result below base fs sizes size own kept next before A R under flow w
 
   -- a tick in a frame that goes on
   pub ticks_on : {A : Type 0} (q : A → World → Type 0) (m : Action A) (own : List Act) (number : ℕ) (h : Standing)
       (names : Names) (under : Made) (w : World) (ticks : ℕ) → Goes own number h names under w
-      → ((left : ℕ) → Good owner q (m w left)) → Good owner q (tick m w ticks)
+      → ((left : ℕ) → GoodHeld types owner permits q (m w left)) → GoodHeld types owner permits q (tick m w ticks)
   ticks_on q m own number h names under w ticks going next =
       good_tick owner q m w ticks
       (laws.actions.told (own ++ below) (frame h names ∷ fs) sizes under w going.state) next
@@ -138,16 +140,16 @@ module _ (types : Types) (owner : ClosedType → Option (List ℕ)) (laws : Step
   -- one statement, and then what follows where it falls through
   pub ends_then : (own others : List Act) (kept next more_kept later : ℕ) (before names : Names) (A B : Standing → Type 0)
       (R S : Names → Type 0) (under : Made) (first : Action Flow) (more : Action Flow) (w : World) (ticks : ℕ)
-      → Good owner (Ends own kept next before A R under) (first w ticks)
-      → ((n : World) (left : ℕ) → Fell types owner loose result below base fs sizes size own kept next before A R under n
-      → Good owner (Ends others more_kept later names B S under) (more n left))
-      → Good owner (Ends others more_kept later names B S under) ((first >>= and_then more) w ticks)
+      → GoodHeld types owner permits (Ends own kept next before A R under) (first w ticks)
+      → ((n : World) (left : ℕ) → Fell types owner permits key loose result below base fs sizes size own kept next before A R under n
+      → GoodHeld types owner permits (Ends others more_kept later names B S under) (more n left))
+      → GoodHeld types owner permits (Ends others more_kept later names B S under) ((first >>= and_then more) w ticks)
   ends_then own others kept next more_kept later before names A B R S under first more w ticks good go =
       good_then owner (Ends own kept next before A R under) (Ends others more_kept later names B S under) (first w ticks)
       (and_then more) good by
     where
       by : (flow : Flow) (n : World) (left : ℕ) → Ends own kept next before A R under flow n
-          → Good owner (Ends others more_kept later names B S under) (and_then more flow n left)
+          → GoodHeld types owner permits (Ends others more_kept later names B S under) (and_then more flow n left)
       by falls n left fell = go n left fell
       by (returns v) n left gone = gone
 
@@ -181,10 +183,10 @@ module _ (types : Types) (owner : ClosedType → Option (List ℕ)) (laws : Step
   -- The names of a block are emptied at its end, and types are as they were before.
   pub emptied_on : (own : List Act) (number count : ℕ) (before : Names) (A : Standing → Type 0) (R : Names → Type 0)
       (S : Names → Type 0) (under : Made) (w : World) (ticks : ℕ) → number + count ≤ size → S before
-      → Fell types owner loose result below base fs sizes size own number (number + count) before
+      → Fell types owner permits key loose result below base fs sizes size own number (number + count) before
       (λ h. ((k : ℕ) → number ≤ k → k < number + count → IsOver (loose k) (h k)) × A (put_each number count empty h)) R
       under w
-      → Good owner (Ends own number number before A S under) (empties number count w ticks)
+      → GoodHeld types owner permits (Ends own number number before A S under) (empties number count w ticks)
   emptied_on own number count before A R S under w ticks room says fell =
       good_falls owner (Ends own number number before A S under) (emptied number count) w ticks (record {
         hold = put_each number count empty fell.hold;
@@ -232,12 +234,12 @@ module _ (types : Types) (owner : ClosedType → Option (List ℕ)) (laws : Step
   -- a block, of which so many names are emptied where it falls through
   pub within_safe : (own : List Act) (number count : ℕ) (before : Names) (A : Standing → Type 0) (R : Names → Type 0)
       (S : Names → Type 0) (under : Made) (block : Action Flow) (w : World) (ticks : ℕ) → number + count ≤ size → S before
-      → Good owner
+      → GoodHeld types owner permits
       (Ends own number (number + count) before
       (λ h. ((k : ℕ) → number ≤ k → k < number + count → IsOver (loose k) (h k)) × A (put_each number count empty h)) R
       under)
       (block w ticks)
-      → Good owner (Ends own number number before A S under) (within number count block w ticks)
+      → GoodHeld types owner permits (Ends own number number before A S under) (within number count block w ticks)
   within_safe own number count before A R S under block w ticks room says good =
       ends_then own own number (number + count) number number before before
       (λ h. ((k : ℕ) → number ≤ k → k < number + count → IsOver (loose k) (h k)) × A (put_each number count empty h)) A R S
@@ -255,8 +257,8 @@ module _ (types : Types) (owner : ClosedType → Option (List ℕ)) (laws : Step
     pub state : IsIn types owner (own ++ below) (frame hold names ∷ fs) sizes ((v, of) ∷ under) n
 
   module _ {I T C K : Type 0} (see : View I T C) (known : Callables I K) (invoke : I → List Value → Action Value)
-      (calls_safe : CallsSafe types owner known invoke) (waiting : AllWait (is_active below) fs) where
-    all_wait : (own : List Act) → AllWait (is_active (own ++ below)) fs
+      (calls_safe : CallsSafe types owner permits known invoke) (waiting : AllWait permits (is_active below) fs) where
+    all_wait : (own : List Act) → AllWait permits (is_active (own ++ below)) fs
     all_wait own = all_more (is_active below) (is_active (own ++ below)) (more_active own below) fs waiting
 
     pub values_safe : (A : Meaning → Type 0) (scope : Scope) (e : Expression Bytes T C) (own : List Act) (number : ℕ)
@@ -264,11 +266,11 @@ module _ (types : Types) (owner : ClosedType → Option (List ℕ)) (laws : Step
         → ((z : ℕ) → is_active (own ++ below) z ≡ false
         → (t : Meaning) × A t × IsOf types owner see known names z (with_token z (is_active (own ++ below))) scope e t)
         → AreReady h (λ k. uses see k scope e) → Goes own number h names under w
-        → Good owner (Valued own number A (after_whole see loose scope e h) names under) (whole see invoke scope e w ticks)
+        → GoodHeld types owner permits (Valued own number A (after_whole see loose scope e h) names under) (whole see invoke scope e w ticks)
     values_safe A scope e own number h names under w ticks fits met going =
         let counts = λ (k : ℕ). (uses see k scope e).consumed in
         good_so owner
-        (Gave types owner laws.actions (own ++ below) names fs sizes size running see known invoke calls_safe (all_wait own)
+        (Gave types owner permits laws.actions (own ++ below) names fs sizes size running see known invoke calls_safe (all_wait own)
         A (λ k. spent (uses see k scope e).consumed (h k)) under (lying_in w))
         (Valued own number A (after_whole see loose scope e h) names under) (whole see invoke scope e w ticks)
         (λ v n gave. record {
@@ -283,7 +285,7 @@ module _ (types : Types) (owner : ClosedType → Option (List ℕ)) (laws : Step
           };
           state = gave.state;
         })
-        (whole_safe types owner laws.actions (own ++ below) names fs sizes size running see known invoke calls_safe
+        (whole_safe types owner permits laws.actions (own ++ below) names fs sizes size running see known invoke calls_safe
         (all_wait own) A scope e h under w ticks fits met going.waits going.state)
       where
         fine_on : (k : ℕ) → (h k ≡ empty) ⊎ MayDrop types (names k)
@@ -294,9 +296,9 @@ module _ (types : Types) (owner : ClosedType → Option (List ℕ)) (laws : Step
     -- one of this type
     pub value_safe : (t : Meaning) (scope : Scope) (e : Expression Bytes T C) (own : List Act) (number : ℕ)
         (h : Standing) (names : Names) (under : Made) (w : World) (ticks : ℕ)
-        → IsWholeOf types owner see known result loose (is_active (own ++ below)) names scope e t
+        → IsWholeOf types owner see known result loose permits key (is_active (own ++ below)) names scope e t
         → AreReady h (λ k. uses see k scope e) → Goes own number h names under w
-        → Good owner (λ (v : Value) n. Goes own number (after_whole see loose scope e h) names ((v, t) ∷ under) n)
+        → GoodHeld types owner permits (λ (v : Value) n. Goes own number (after_whole see loose scope e h) names ((v, t) ∷ under) n)
         (whole see invoke scope e w ticks)
     value_safe t scope e own number h names under w ticks fits met going =
         good_so owner (Valued own number (λ (u : Meaning). u ≡ t) (after_whole see loose scope e h) names under)

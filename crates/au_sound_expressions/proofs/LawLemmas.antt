@@ -18,11 +18,11 @@ use Rattle.au_sound_expressions.proofs.WholeLemmas.{Gave, whole_safe}
 
 pub expressions_safe : (types : Types) (owner : ClosedType → Option (List ℕ)) {I T C K : Type 0} (see : View I T C)
     (known : Callables I K) (invoke : I → List Value → Action Value)
-    → ExpressionsAreSafe types owner see known invoke
+    → ExpressionsAreSafe types owner permits see known invoke
 expressions_safe types owner see known invoke laws calls_safe acts names fs sizes size running waiting scope e t h under w
     ticks fits met waits state =
     good_so owner
-    (Gave types owner laws acts names fs sizes size running see known invoke calls_safe waiting (λ (u : Meaning). u ≡ t)
+    (Gave types owner permits laws acts names fs sizes size running see known invoke calls_safe waiting (λ (u : Meaning). u ≡ t)
     (λ k. spent (uses see k scope e).consumed (h k)) under (lying_in w))
     (λ (v : Value) n.
     IsIn types owner acts (frame (λ k. spent (uses see k scope e).consumed (h k)) names ∷ fs) sizes ((v, t) ∷ under) n
@@ -33,5 +33,5 @@ expressions_safe types owner see known invoke laws calls_safe acts names fs size
           gave.is gave.state,
       gave.same,
     ))
-    (whole_safe types owner laws acts names fs sizes size running see known invoke calls_safe waiting
+    (whole_safe types owner permits laws acts names fs sizes size running see known invoke calls_safe waiting
     (λ (u : Meaning). u ≡ t) scope e h under w ticks (λ z off. (t, refl, fits z off)) met waits state)

@@ -41,7 +41,7 @@ frame_stays active z f waits off =
     let same : (k : ℕ) → freed z (f.hold k) ≡ f.hold k = λ k. fresh active z (f.hold k) (waits k) off in
     λ i. record { hold = λ k. same k i; type = f.type }
 
-pub frames_stay : (active : ℕ → Bool) (z : ℕ) (fs : List Frame) → AllWait active fs → active z ≡ false
+pub frames_stay : (active : ℕ → Bool) (z : ℕ) (fs : List Frame) → AllWait permits active fs → active z ≡ false
     → freed_frames z fs ≡ fs
 frames_stay active z [] waits off = refl
 frames_stay active z (f ∷ fs) waits off =
@@ -63,8 +63,8 @@ waits_more one two more (shut z) waits = more z waits
 waits_more one two more (watched []) waits = absurd waits
 waits_more one two more (watched (z ∷ zs)) waits = are_more one two more (z ∷ zs) waits
 
-pub all_more : (one two : ℕ → Bool) → ((z : ℕ) → one z ≡ true → two z ≡ true) → (fs : List Frame) → AllWait one fs
-    → AllWait two fs
+pub all_more : (one two : ℕ → Bool) → ((z : ℕ) → one z ≡ true → two z ≡ true) → (fs : List Frame) → AllWait permits one fs
+    → AllWait permits two fs
 all_more one two more [] waits = tt
 all_more one two more (f ∷ fs) waits =
     (λ k. waits_more one two more (f.hold k) (waits.0 k), all_more one two more fs waits.1)

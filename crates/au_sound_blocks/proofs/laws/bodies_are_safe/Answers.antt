@@ -4,5 +4,5 @@ use Rattle.au_sound_blocks.proofs.laws.bodies_are_safe.Goals as goal
 pub returns : goal.returns
 returns g c = λ types owner see known invoke laws calls_safe loose result below base fs sizes size running waiting depth number
     scope block own h names under w ticks ahead runs room going.
-    all_safe types owner laws loose result below base fs sizes size running see known invoke calls_safe waiting depth block
+    all_safe types owner permits laws key loose result below base fs sizes size running see known invoke calls_safe waiting depth block
     number scope own (λ g. ⊥) h names under w ticks ahead runs room going
