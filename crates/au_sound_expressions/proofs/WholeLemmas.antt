@@ -26,11 +26,11 @@ use Rattle.au_running_judgements.specs.Known.{Callables, with_token}
 use Rattle.au_running_judgements.specs.Lives.{AreReady, Standing, spent, stand}
 use Rattle.au_running_judgements.specs.Uses.{uses}
 use Rattle.au_sound_expressions.specs.Actions.{ActionsAreSafe}
-use Rattle.au_sound_expressions.specs.Safe.{After, AllWait, CallsSafe, Waits, frame}
+use Rattle.au_sound_expressions.specs.Safe.{After, AllWait, CallsSafe, Stands, frame}
 use Rattle.au_sound_expressions.proofs.EvalLemmas.{eval_safe}
 use Rattle.au_sound_expressions.proofs.HoldLemmas.{plus_nothing}
-use Rattle.au_sound_expressions.proofs.WaitLemmas.{active_more, all_more, frames_stay, fresh, waits_more}
-use Rattle.au_sound_expressions.specs.Held.{GoodHeld, Permits}
+use Rattle.au_sound_expressions.proofs.WaitLemmas.{active_more, all_held, all_more, frames_stay, fresh, waits_more}
+use Rattle.au_running_judgements.specs.Held.{GoodHeld, Permits}
 
 -- What an action opens is closed behind it.
 closes_out : {A : Type 0} {cuts : World → Type 0} (owner : ClosedType → Option (List ℕ)) (q : A → World → Type 0) (count : ℕ) (out : Out A)
@@ -83,11 +83,13 @@ module _ (types : Types) (owner : ClosedType → Option (List ℕ)) {V W : Type 
       good_closing owner q (eval see invoke scope e) w ticks
       (good_so owner left (λ (v : Value) n. q v (closed_to (length w.borrows) n)) (eval see invoke scope e w ticks)
       (λ v n after. ends a begun.1 refl v n fit.0 fit.1 after)
-      (eval_safe types owner permits laws a older names fs sizes size running see known invoke calls_safe
+      (eval_safe types owner permits laws a older names fs sizes size running
+      (all_held permits (is_active older) fs waiting) see known invoke calls_safe
       (all_more (is_active older) (is_active (a ∷ older)) (active_more a older) fs waiting) scope e fit.0 fit.2
       (λ k. unmentioned) h under w ticks
       (λ k. subst (λ n. Ready (stand (h k)) n) (sym (plus_nothing (uses see k scope e))) (met k))
-      (λ k. waits_more (is_active older) (is_active (a ∷ older)) (active_more a older) (h k) (waits k)) begun.2))
+      (λ k. waits_more (is_active older) (is_active (a ∷ older)) (active_more a older) (h k) (waits.0 k), waits.1)
+      begun.2))
     where
       ends : (a : Act) → is_active older a.token ≡ false → a.base ≡ lying_in w → (v : Value) (n : World) (t : Meaning)
           → A t
@@ -106,7 +108,7 @@ module _ (types : Types) (owner : ClosedType → Option (List ℕ)) {V W : Type 
           let lies = (laws.counted (a ∷ older) (frame after.hold names ∷ fs) sizes ((v, t) ∷ under) n).1 a older refl
           after.state in
           let held : (k : ℕ) → freed a.token (after.hold k) ≡ spent (uses see k scope e).consumed (h k) =
-          λ k. after.gone k ∙ ap (spent (uses see k scope e).consumed) (fresh (is_active older) a.token (h k) (waits k) off)
+          λ k. after.gone k ∙ ap (spent (uses see k scope e).consumed) (fresh (is_active older) a.token (h k) (waits.0 k) off)
           in
           let own : frame (λ k. freed a.token (after.hold k)) names
           ≡ frame (λ k. spent (uses see k scope e).consumed (h k)) names =
