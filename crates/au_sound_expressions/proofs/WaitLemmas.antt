@@ -45,12 +45,13 @@ frame_stays active z f waits off =
     let same : (k : ℕ) → freed z (f.hold k) ≡ f.hold k = λ k. fresh active z (f.hold k) (waits k) off in
     λ i. record { hold = λ k. same k i; type = f.type }
 
-pub frames_stay : {V W : Type 0} {permits : Permits V W} (active : ℕ → Bool) (z : ℕ) (fs : List Frame) → AllWait permits active fs → active z ≡ false
+pub frames_stay : {V W : Type 0} (permits : Permits V W) (active : ℕ → Bool) (z : ℕ) (fs : List Frame) → AllWait
+    permits active fs → active z ≡ false
     → freed_frames z fs ≡ fs
-frames_stay active z [] waits off = refl
-frames_stay active z (f ∷ fs) waits off =
+frames_stay permits active z [] waits off = refl
+frames_stay permits active z (f ∷ fs) waits off =
     ap₂ (λ (g : Frame) (gs : List Frame). g ∷ gs) (frame_stays active z f waits.0.0 off)
-    (frames_stay active z fs waits.1 off)
+    (frames_stay permits active z fs waits.1 off)
 
 -- ---- more tokens
 
@@ -67,11 +68,11 @@ waits_more one two more (shut z) waits = more z waits
 waits_more one two more (watched []) waits = absurd waits
 waits_more one two more (watched (z ∷ zs)) waits = are_more one two more (z ∷ zs) waits
 
-pub all_more : {V W : Type 0} {permits : Permits V W} (one two : ℕ → Bool)
+pub all_more : {V W : Type 0} (permits : Permits V W) (one two : ℕ → Bool)
     → ((z : ℕ) → one z ≡ true → two z ≡ true) → (fs : List Frame) → AllWait permits one fs → AllWait permits two fs
-all_more one two more [] waits = tt
-all_more one two more (f ∷ fs) waits =
-    ((λ k. waits_more one two more (f.hold k) (waits.0.0 k), waits.0.1), all_more one two more fs waits.1)
+all_more permits one two more [] waits = tt
+all_more permits one two more (f ∷ fs) waits =
+    ((λ k. waits_more one two more (f.hold k) (waits.0.0 k), waits.0.1), all_more permits one two more fs waits.1)
 
 -- one token more is active
 pub active_more : (a : Act) (older : List Act) (z : ℕ) → is_active older z ≡ true → is_active (a ∷ older) z ≡ true
@@ -92,7 +93,8 @@ others_active : (a : Act) (older : List Act) (zs : List ℕ) → AreActive (is_a
 others_active a older [] are = tt
 others_active a older (z ∷ zs) are = by (a.token == z) are.0 (others_active a older zs are.1)
   where
-    by : (b : Bool) → (if b then true else is_active older z) ≡ true → AreActive (is_active older) (others_of a.token zs)
+    by : (b : Bool) → (if b then true else is_active older z) ≡ true → AreActive (is_active older)
+        (others_of a.token zs)
         → AreActive (is_active older) (if b then others_of a.token zs else z ∷ others_of a.token zs)
     by true is rest = rest
     by false is rest = (is, rest)
