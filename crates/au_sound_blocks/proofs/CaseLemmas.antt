@@ -22,9 +22,9 @@ use Rattle.au_meaning.specs.Statements.{within}
 use Rattle.au_meaning.specs.Ticks.{Action, tick, ◌>>=◌, ◌>>◌}
 use Rattle.au_meaning.specs.Views.{Field, View}
 use Rattle.au_meaning.specs.Worlds.{Value, World}
-use Rattle.au_sound_expressions.specs.Good.{IsIn, IsRunning, lying_in}
+use Rattle.au_sound_expressions.specs.Good.{Good, IsIn, IsRunning, lying_in}
 use Rattle.au_sound_expressions.specs.Making.{values_of}
-use Rattle.au_sound_expressions.proofs.GoodLemmas.{good_so, good_then}
+use Rattle.au_sound_expressions.proofs.GoodLemmas.{good_so, good_then, good_uncut}
 use Rattle.au_sound_expressions.specs.Blocks.{AreBound, AreTold, IsWholeOf, Names, Told}
 use Rattle.au_sound_expressions.specs.Blocks.{owned, through, to_read, to_write, with_types}
 use Rattle.au_sound_expressions.specs.Known.{Callables}
@@ -39,7 +39,7 @@ use Rattle.au_sound_blocks.proofs.StateLemmas.{Ends, Goes, goes_with, good_store
 use Rattle.au_sound_blocks.proofs.StateLemmas.{within_safe}
 use Rattle.au_sound_expressions.specs.Telling.{HasTold}
 use Rattle.au_sound_blocks.proofs.LoopLemmas.{ends_based}
-use Rattle.au_sound_blocks.specs.Held.{GoodHeld, Permits}
+use Rattle.au_sound_expressions.specs.Held.{GoodHeld, IsCutSo, Permits}
 
 module _ (types : Types) (owner : ClosedType → Option (List ℕ)) {V W : Type 0} (permits : Permits V W)
     (laws : StepsAreSafe types owner) (key : V) (loose : ℕ → Bool)
@@ -73,7 +73,7 @@ module _ (types : Types) (owner : ClosedType → Option (List ℕ)) {V W : Type 
   arm_safe own number more binds o fields ts A S h names parts under n left block noted bound same room says going safe =
       within_safe types owner permits laws key loose result below base fs sizes size running own number (length binds + more) names A
       (λ ns. Unit {0}) S under (binds_fields number binds o (values_of parts) >> block) n left room says
-      (good_then owner
+      (good_then owner _
       (λ (u : Unit {0}) m. Gos own (number + length binds) (put_each number (length binds) forest.ready h)
       (with_types number bound.bound names) under m) q
       (binds_fields number binds o (values_of parts) n left) (λ u. block)
@@ -83,7 +83,7 @@ module _ (types : Types) (owner : ClosedType → Option (List ℕ)) {V W : Type 
       (binds_good types owner permits laws key loose result below base fs sizes size running see known invoke calls_safe waiting own
       number binds fields ts bound h names parts under n left same (omega arith) going))
       (λ u m last on.
-      good_so owner
+      good_so owner _
       (Ending own (number + length binds) ((number + length binds) + more) (with_types number bound.bound names)
       (λ g. ((k : ℕ) → number ≤ k → k < number + (length binds + more) → IsOver (loose k) (g k))
       × A (put_each number (length binds + more) empty g)) (λ ns. Unit {0}) under) q (block m last)
@@ -106,7 +106,7 @@ module _ (types : Types) (owner : ClosedType → Option (List ℕ)) {V W : Type 
       (of : Meaning) (tag : ℕ) (ts : List Meaning) (w : World) (ticks : ℕ) → AreTold (is_active (own ++ below)) told
       → types.fields of tag ≡ Some ts
       → IsIn types owner (own ++ below) (frame h names ∷ fs) sizes ((v, through told of) ∷ under) w
-      → GoodHeld types owner permits (HasTold types owner (own ++ below) (frame h names ∷ fs) sizes under types of (through told))
+      → Good owner (HasTold types owner (own ++ below) (frame h names ∷ fs) sizes under types of (through told))
       (tells_apart v w ticks)
   told_good owned own number h names under v of tag ts w ticks scoped fields state =
       laws.values (own ++ below) (frame h names ∷ fs) sizes under w ticks laws.actions.typed v of tag ts fields state
@@ -115,7 +115,7 @@ module _ (types : Types) (owner : ClosedType → Option (List ℕ)) {V W : Type 
       (inl (subst (λ (r : Region). IsIn types owner (own ++ below) (frame h names ∷ fs) sizes ((v, writes of r) ∷ under) w)
       static state)))
   told_good (to_write region) own number h names under v of tag ts w ticks (inr scoped) fields state =
-      subst (λ (r : Region). GoodHeld types owner permits
+      subst (λ (r : Region). Good owner
       (HasTold types owner (own ++ below) (frame h names ∷ fs) sizes under types of (through (to_write r)))
       (tells_apart v w ticks)) (sym scoped.1)
       (laws.writers (own ++ below) (frame h names ∷ fs) sizes under w ticks laws.actions.typed v of scoped.0 tag ts fields
@@ -127,7 +127,7 @@ module _ (types : Types) (owner : ClosedType → Option (List ℕ)) {V W : Type 
       (inr (subst (λ (r : Region). IsIn types owner (own ++ below) (frame h names ∷ fs) sizes ((v, reads of r) ∷ under) w)
       static state)))
   told_good (to_read region) own number h names under v of tag ts w ticks (inr scoped) fields state =
-      subst (λ (r : Region). GoodHeld types owner permits
+      subst (λ (r : Region). Good owner
       (HasTold types owner (own ++ below) (frame h names ∷ fs) sizes under types of (through (to_read r)))
       (tells_apart v w ticks)) (sym scoped.1)
       (laws.readers (own ++ below) (frame h names ∷ fs) sizes under w ticks laws.actions.typed v of scoped.0 tag ts fields
@@ -153,14 +153,17 @@ module _ (types : Types) (owner : ClosedType → Option (List ℕ)) {V W : Type 
       after_value types owner permits laws key loose result below base fs sizes size running see known invoke calls_safe waiting number
       next scope e (through told of) own A R h names under w ticks (λ v. tells_apart v >>= go) fits met going
       (λ v n left on.
-      good_then owner
+      good_then owner _
       (λ (p : ℕ × List Value) m. HasTold types owner (own ++ below)
       (frame (after_whole see loose scope e h) names ∷ fs) sizes under types of (through told) p m
       × (lying_in m ≡ lying_in n)) (Ending own number next names A R under) (tells_apart v n left) go
-      (good_stored owner
+      (good_stored owner (IsCutSo types owner permits)
       (HasTold types owner (own ++ below) (frame (after_whole see loose scope e h) names ∷ fs) sizes under types of
       (through told)) (told_apart v n.store) n left
-      (told_good told own number (after_whole see loose scope e h) names under v of tag ts n left scoped fields on.state))
+      (good_uncut owner (IsCutSo types owner permits)
+      (HasTold types owner (own ++ below) (frame (after_whole see loose scope e h) names ∷ fs) sizes under types of
+      (through told)) (tells_apart v n left)
+      (told_good told own number (after_whole see loose scope e h) names under v of tag ts n left scoped fields on.state)))
       (λ p m more both. came p v n m more both.0 both.1 on))
     where
       came : (p : ℕ × List Value) (v : Value) (n m : World) (more : ℕ)

@@ -23,9 +23,9 @@ use Rattle.au_meaning.specs.Statements.{means_case, ranges, returns, while_turns
 use Rattle.au_meaning.specs.Ticks.{Action, does, pure, tick, ◌>>=◌, ◌>>◌}
 use Rattle.au_meaning.specs.Views.{View}
 use Rattle.au_meaning.specs.Worlds.{Value, World}
-use Rattle.au_sound_expressions.specs.Good.{IsIn, IsRunning, lying_in}
-use Rattle.au_sound_expressions.proofs.GoodLemmas.{good_then}
-use Rattle.au_sound_expressions.specs.Blocks.{IsFine, MayDrop, Names}
+use Rattle.au_sound_expressions.specs.Good.{Good, IsIn, IsRunning, lying_in}
+use Rattle.au_sound_expressions.proofs.GoodLemmas.{good_then, good_uncut}
+use Rattle.au_sound_expressions.specs.Blocks.{IsFine, Names}
 use Rattle.au_sound_expressions.specs.Expressions.{Borrows}
 use Rattle.au_sound_expressions.specs.Known.{Callables, InScope}
 use Rattle.au_sound_expressions.specs.Lives.{AreReady, Standing, lending, lent_for, put}
@@ -43,7 +43,7 @@ use Rattle.au_sound_blocks.proofs.FrameLemmas.{put_each_way}
 use Rattle.au_sound_blocks.proofs.StateLemmas.{Ends, Goes, ends_then, good_falls}
 use Rattle.au_sound_blocks.proofs.StateLemmas.{more_active, ticks_on}
 use Rattle.au_sound_blocks.proofs.LoopLemmas.{good_lending}
-use Rattle.au_sound_blocks.specs.Held.{GoodHeld, Permits}
+use Rattle.au_sound_expressions.specs.Held.{GoodHeld, IsCutSo, Permits}
 
 module _ (types : Types) (owner : ClosedType → Option (List ℕ)) {V W : Type 0} (permits : Permits V W)
     (laws : StepsAreSafe types owner) (key : V) (loose : ℕ → Bool)
@@ -68,27 +68,27 @@ module _ (types : Types) (owner : ClosedType → Option (List ℕ)) {V W : Type 
       (under : Made) (w : World) (ticks : ℕ) → IsReadable (h x.number) → AreReady h (λ k. where_of k (Some x) (borrowed_by m))
       → Borrows types owner see known names a.token (is_active acts) m (Some x) of
       → IsIn types owner (a ∷ acts) (frame h names ∷ fs) sizes under w
-      → GoodHeld types owner permits
+      → Good owner
       (λ (v : Value) n. IsIn types owner (a ∷ acts) (frame (lending m a.token (Some x) h) names ∷ fs) sizes
       ((v, of) ∷ under) n) (lends m x.number w ticks)
   lent_good mode.Write x a acts of h names under w ticks is met fits state =
-      subst (λ (u : Meaning). GoodHeld types owner permits
+      subst (λ (u : Meaning). Good owner
       (λ (v : Value) n. IsIn types owner (a ∷ acts) (frame (lending mode.Write a.token (Some x) h) names ∷ fs) sizes
       ((v, u) ∷ under) n) (lends mode.Write x.number w ticks)) (sym fits)
       (laws.actions.lent (a ∷ acts) (frame h names) fs sizes size under w ticks running a acts refl x.number
       (is_ready (h x.number) (ready.lends (stand (h x.number)) unmentioned
       (met_one x (borrowed_by mode.Write) h met)).0) state)
   lent_good mode.Read x a acts of h names under w ticks is met fits state =
-      subst (λ (u : Meaning). GoodHeld types owner permits
+      subst (λ (u : Meaning). Good owner
       (λ (v : Value) n. IsIn types owner (a ∷ acts) (frame (lending mode.Read a.token (Some x) h) names ∷ fs) sizes
       ((v, u) ∷ under) n) (lends mode.Read x.number w ticks)) (sym fits)
       (laws.actions.read (a ∷ acts) (frame h names) fs sizes size under w ticks running a acts refl x.number is state)
   lent_good mode.Reborrow x a acts of h names under w ticks is met fits state =
-      subst (λ (u : Meaning). GoodHeld types owner permits
+      subst (λ (u : Meaning). Good owner
       (λ (v : Value) n. IsIn types owner (a ∷ acts) (frame (lending mode.Reborrow a.token (Some x) h) names ∷ fs) sizes
       ((v, u) ∷ under) n) (lends mode.Reborrow x.number w ticks)) (sym fits.4) (by fits.3)
     where
-      by : InScope (is_active acts) fits.1 → GoodHeld types owner permits
+      by : InScope (is_active acts) fits.1 → Good owner
           (λ (v : Value) n. IsIn types owner (a ∷ acts) (frame (lending mode.Reborrow a.token (Some x) h) names ∷ fs) sizes
           ((v, writes fits.0 (token a.token)) ∷ under) n) (lends mode.Reborrow x.number w ticks)
       by (inl static) =
@@ -128,9 +128,9 @@ module _ (types : Types) (owner : ClosedType → Option (List ℕ)) {V W : Type 
       → GoodHeld types owner permits (Ending own number number before A S under) (tick (does (closed_to count) >> pure falls) n left)
   closed_on a own number names before A R S under count n left is off says fell =
       let z = a.token in
-      ticks_on types owner permits laws key loose result below base fs sizes size running (Ending own number number before A S under)
+      ticks_on types owner permits laws key loose result below base fs sizes size running waiting (Ending own number number before A S under)
       (does (closed_to count) >> pure falls) (a ∷ own) number fell.hold fell.names under n left fell.going
-      (λ more. good_falls owner (Ending own number number before A S under) (closed_to count) n more (record {
+      (λ more. good_falls owner _ (Ending own number number before A S under) (closed_to count) n more (record {
         hold = λ k. freed a.token (fell.hold k);
         names = before;
         ahead = fell.ahead;
@@ -141,23 +141,23 @@ module _ (types : Types) (owner : ClosedType → Option (List ℕ)) {V W : Type 
             (closed_to (length a.base) n)) fell.runs (record {
               waits = λ k. waits_freed a (own ++ below) (fell.hold k) (fell.going.waits k);
               clear = λ k from. ap (freed a.token) (fell.going.clear k from);
-              fine = λ k may. fine_on k (fell.going.fine k may);
+              fine = λ k. fine_on k (fell.going.fine k);
               bottom = subst (λ (xs : Lying). IsBottom own xs base)
                   (sym ((laws.actions.counted (a ∷ (own ++ below)) (frame fell.hold fell.names ∷ fs) sizes under n).1 a
                   (own ++ below) refl fell.going.state)) fell.going.bottom;
               state = subst (λ (gs : List Frame). IsIn types owner (own ++ below)
                   (frame (λ k. freed a.token (fell.hold k)) fell.names ∷ gs) sizes under (closed_to (length a.base) n))
-                  (frames_stay (is_active (own ++ below)) a.token fs
-                  (all_more (is_active below) (is_active (own ++ below)) (more_active own below) fs waiting) off)
+                  (frames_stay permits (is_active (own ++ below)) a.token fs
+                  (all_more permits (is_active below) (is_active (own ++ below)) (more_active own below) fs waiting) off)
                   (laws.actions.ended (a ∷ (own ++ below)) (frame fell.hold fell.names ∷ fs) sizes under n a (own ++ below)
                   refl fell.going.state);
             }));
       }))
     where
-      fine_on : (k : ℕ) → (fell.hold k ≡ empty) ⊎ MayDrop types (fell.names k)
-          → (freed a.token (fell.hold k) ≡ empty) ⊎ MayDrop types (fell.names k)
+      fine_on : (k : ℕ) → (fell.hold k ≡ empty) ⊎ IsFine types loose permits key k (fell.names k)
+          → (freed a.token (fell.hold k) ≡ empty) ⊎ IsFine types loose permits key k (fell.names k)
       fine_on k (inl none) = inl (ap (freed a.token) none)
-      fine_on k (inr may) = inr may
+      fine_on k (inr fine) = inr fine
 
   -- ---- a whole borrow statement
 
@@ -194,21 +194,24 @@ module _ (types : Types) (owner : ClosedType → Option (List ℕ)) {V W : Type 
         bottom = going.bottom;
         state = begun.2;
       } in
-      good_lending owner q (binds_borrow number m (Some x)) block w ticks
-      (good_then owner
+      good_lending owner _ q (binds_borrow number m (Some x)) block w ticks
+      (good_then owner _
       (λ (u : Unit {0}) n. Gos (a ∷ own) (number + 1) (put number forest.ready (lending m a.token (Some x) h))
       (put number fit.0 names) under n) q (tick (binds_borrow number m (Some x)) w ticks)
       (λ u. block >>= and_then (tick (does (closed_to (length w.borrows)) >> pure falls)))
-      (ticks_on types owner permits laws key loose result below base fs sizes size running
+      (ticks_on types owner permits laws key loose result below base fs sizes size running waiting
       (λ (u : Unit {0}) n. Gos (a ∷ own) (number + 1) (put number forest.ready (lending m a.token (Some x) h))
       (put number fit.0 names) under n) (binds_borrow number m (Some x)) (a ∷ own) number h names under w ticks started
       (λ left.
-      good_then owner
+      good_then owner _
       (λ (v : Value) n. IsIn types owner (a ∷ (own ++ below)) (frame (lending m a.token (Some x) h) names ∷ fs) sizes
       ((v, fit.0) ∷ under) n)
       (λ (u : Unit {0}) n. Gos (a ∷ own) (number + 1) (put number forest.ready (lending m a.token (Some x) h))
       (put number fit.0 names) under n) (lends m x.number w left) (holds number)
-      (lent_good m x a (own ++ below) fit.0 h names under w left is met fit.1 begun.2)
+      (good_uncut owner (IsCutSo types owner permits)
+      (λ (v : Value) n. IsIn types owner (a ∷ (own ++ below)) (frame (lending m a.token (Some x) h) names ∷ fs) sizes
+      ((v, fit.0) ∷ under) n) (lends m x.number w left)
+      (lent_good m x a (own ++ below) fit.0 h names under w left is met fit.1 begun.2))
       (λ v n more state.
       held_on types owner permits laws key loose result below base fs sizes size running see known invoke calls_safe waiting (a ∷ own)
       number fit.0 (lending m a.token (Some x) h) names under v n room fit.2
@@ -234,14 +237,15 @@ module _ (types : Types) (owner : ClosedType → Option (List ℕ)) {V W : Type 
         clear = λ k from. put_each_way (λ (g : Hold). g ≡ empty) x.number k (lent_for m a.token (h x.number)) h
             (λ same. absurd (full (h x.number) is (subst (λ (j : ℕ). h j ≡ empty) (sym same) (going.clear k from))))
             (λ other. going.clear k from);
-        fine = λ k may. fine_on k (going.fine k may);
+        fine = λ k. fine_on k (going.fine k);
         bottom = bottom;
         state = state;
       }
         where
-          fine_on : (k : ℕ) → (h k ≡ empty) ⊎ MayDrop types (names k)
-              → (put x.number (lent_for m a.token (h x.number)) h k ≡ empty) ⊎ MayDrop types (names k)
+          fine_on : (k : ℕ) → (h k ≡ empty) ⊎ IsFine types loose permits key k (names k)
+              → (put x.number (lent_for m a.token (h x.number)) h k ≡ empty)
+              ⊎ IsFine types loose permits key k (names k)
           fine_on k (inl none) =
               inl (put_each_way (λ (g : Hold). g ≡ empty) x.number k (lent_for m a.token (h x.number)) h
               (λ same. absurd (full (h x.number) is (subst (λ (j : ℕ). h j ≡ empty) (sym same) none))) (λ other. none))
-          fine_on k (inr may) = inr may
+          fine_on k (inr fine) = inr fine

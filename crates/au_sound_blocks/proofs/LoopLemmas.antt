@@ -37,24 +37,24 @@ use Rattle.au_sound_expressions.proofs.JoinLemmas.{truth_is}
 use Rattle.au_sound_expressions.proofs.LeafLemmas.{good_where}
 use Rattle.au_sound_blocks.specs.Steps.{StepsAreSafe}
 use Rattle.au_sound_blocks.proofs.AssignLemmas.{met_one}
-use Rattle.au_sound_blocks.proofs.StateLemmas.{Ends, Goes, ends_then, falls_on, goes_as, goes_with}
+use Rattle.au_sound_blocks.proofs.StateLemmas.{Ends, Goes, cut_on, ends_then, falls_on, goes_as, goes_with}
 use Rattle.au_sound_blocks.proofs.StateLemmas.{ticks_on, value_safe}
-use Rattle.au_sound_blocks.specs.Held.{GoodHeld, Permits}
+use Rattle.au_sound_expressions.specs.Held.{GoodHeld, Permits}
 
 -- the world becomes another, and then an action follows
-pub good_does : {A : Type 0} {cuts : World → Type 0} (owner : ClosedType → Option (List ℕ)) (q : A → World → Type 0) (change : World → World)
+pub good_does : {A : Type 0} (owner : ClosedType → Option (List ℕ)) (cuts : World → Type 0) (q : A → World → Type 0) (change : World → World)
     (next : Action A) (w : World) (ticks : ℕ) → GoodBy owner cuts q (next (change w) ticks)
     → GoodBy owner cuts q ((does change >> next) w ticks)
 unfolding follows
-good_does owner q change next w ticks good = good
+good_does owner cuts q change next w ticks good = good
 
 -- what a borrow statement does, where so many borrows lie open
-pub good_lending : {cuts : World → Type 0} (owner : ClosedType → Option (List ℕ)) (q : Flow → World → Type 0) (opening : Action (Unit {0}))
+pub good_lending : (owner : ClosedType → Option (List ℕ)) (cuts : World → Type 0) (q : Flow → World → Type 0) (opening : Action (Unit {0}))
     (block : Action Flow) (w : World) (ticks : ℕ)
     → GoodBy owner cuts q ((tick opening >> (block >>= and_then (tick (does (closed_to (length w.borrows)) >> pure falls)))) w ticks)
     → GoodBy owner cuts q (statement.lending opening block w ticks)
 unfolding follows
-good_lending owner q opening block w ticks good = good
+good_lending owner cuts q opening block w ticks good = good
 
 same_kinds : (kind : IntKind) → same_kind kind kind ≡ true
 same_kinds kinds.Nat8 = refl
@@ -113,7 +113,7 @@ module _ (types : Types) (owner : ClosedType → Option (List ℕ)) {V W : Type 
       → GoodHeld types owner permits q (two n left))
       → GoodHeld types owner permits q ((whole see invoke scope e >>= (λ v. tick (chosen one two v))) w ticks)
   test_safe number scope e own q h names under w ticks one two fits met going goes_one goes_two =
-      good_then owner
+      good_then owner _
       (λ (v : Value) n. Gos own number (after_whole see loose scope e h) names ((v, type.truth) ∷ under) n) q
       (whole see invoke scope e w ticks) (λ v. tick (chosen one two v))
       (value_safe types owner permits laws key loose result below base fs sizes size running see known invoke calls_safe waiting
@@ -124,7 +124,7 @@ module _ (types : Types) (owner : ClosedType → Option (List ℕ)) {V W : Type 
       let is = truth_is v told.0 in
       let free = goes_with types owner permits laws key loose result below base fs sizes size running own number
       (after_whole see loose scope e h) names ((v, type.truth) ∷ under) under n n refl told.1 on in
-      ticks_on types owner permits laws key loose result below base fs sizes size running q (chosen one two v) own number
+      ticks_on types owner permits laws key loose result below base fs sizes size running waiting q (chosen one two v) own number
       (after_whole see loose scope e h) names ((v, type.truth) ∷ under) n left on (λ more.
       subst (λ (u : Value). GoodHeld types owner permits q (chosen one two u n more)) (sym is.1) (by n more free is.0)))
     where
@@ -146,7 +146,8 @@ module _ (types : Types) (owner : ClosedType → Option (List ℕ)) {V W : Type 
       (while_turns turns (whole see invoke scope e) body w ticks)
   unfolding while_turns
   while_safe zero number scope e own A R h names under w ticks body fits met kept ahead says safe going =
-      laws.actions.told (own ++ below) (frame h names ∷ fs) sizes under w going.state
+      cut_on types owner permits laws key loose result below base fs sizes size running waiting own number h names under
+      w going
   while_safe (suc turns) number scope e own A R h names under w ticks body fits met kept ahead says safe going =
       let q = Ending own number number names A R under in
       let as_before : (k : ℕ) → after_whole see loose scope e h k ≡ h k =
@@ -181,7 +182,8 @@ module _ (types : Types) (owner : ClosedType → Option (List ℕ)) {V W : Type 
       → GoodHeld types owner permits (Ending own number number names A R under) (for_turns turns body z last w ticks)
   unfolding for_turns
   turns_safe zero number kind own A R h names under w ticks body z last ahead says plain safe going =
-      laws.actions.told (own ++ below) (frame h names ∷ fs) sizes under w going.state
+      cut_on types owner permits laws key loose result below base fs sizes size running waiting own number h names under
+      w going
   turns_safe (suc turns) number kind own A R h names under w ticks body z last ahead says plain safe going =
       ends_then types owner permits laws key loose result below base fs sizes size running own own number number number number names
       names (λ f. (k : ℕ) → f k ≡ h k) A (λ ns. ns ≡ names) R under (body z)
@@ -191,7 +193,7 @@ module _ (types : Types) (owner : ClosedType → Option (List ℕ)) {V W : Type 
       let on = subst (λ (ns : Names). Gos own number h ns under m) fell.runs
       (goes_as types owner permits laws key loose result below base fs sizes size running own number fell.hold h fell.names under m
       fell.ahead fell.going) in
-      ticks_on types owner permits laws key loose result below base fs sizes size running (Ending own number number names A R under)
+      ticks_on types owner permits laws key loose result below base fs sizes size running waiting (Ending own number number names A R under)
       (if int_lt z last then for_turns turns body (z +ℤ pos 1) last else pure falls) own number h names under m more on
       (λ left. by (int_lt z last) m left on
       (turns_safe turns number kind own A R h names under m left body (z +ℤ pos 1) last ahead says
@@ -224,14 +226,14 @@ module _ (types : Types) (owner : ClosedType → Option (List ℕ)) {V W : Type 
       ((whole see invoke scope one >>= (λ a. whole see invoke scope two >>= (λ b. tick (ranges turns body a b)))) w ticks)
   for_safe turns number scope one two kind own A R h names under w ticks body fits_one fits_two met_one met_two ahead says
       safe going =
-      good_then owner
+      good_then owner _
       (λ (v : Value) n. Gos own number (after_whole see loose scope one h) names ((v, integer kind) ∷ under) n)
       (Ending own number number names A R under) (whole see invoke scope one w ticks)
       (λ a. whole see invoke scope two >>= (λ b. tick (ranges turns body a b)))
       (value_safe types owner permits laws key loose result below base fs sizes size running see known invoke calls_safe waiting
       (integer kind) scope one own number h names under w ticks fits_one met_one going)
       (λ a n left first.
-      good_then owner
+      good_then owner _
       (λ (v : Value) m. Gos own number (after_whole see loose scope two (after_whole see loose scope one h)) names
       ((v, integer kind) ∷ (a, integer kind) ∷ under) m)
       (Ending own number number names A R under) (whole see invoke scope two n left) (λ b. tick (ranges turns body a b))
@@ -264,7 +266,7 @@ module _ (types : Types) (owner : ClosedType → Option (List ℕ)) {V W : Type 
           let free = goes_with types owner permits laws key loose result below base fs sizes size running own number
           (after_whole see loose scope two (after_whole see loose scope one h)) names
           ((b, integer kind) ∷ (a, integer kind) ∷ under) under m m refl told.5 on in
-          ticks_on types owner permits laws key loose result below base fs sizes size running
+          ticks_on types owner permits laws key loose result below base fs sizes size running waiting
           (Ending own number number names A R under) (ranges turns body a b) own number
           (after_whole see loose scope two (after_whole see loose scope one h)) names
           ((b, integer kind) ∷ (a, integer kind) ∷ under) m more on
@@ -273,7 +275,7 @@ module _ (types : Types) (owner : ClosedType → Option (List ℕ)) {V W : Type 
           (sym told.2)
           (subst (λ (v : Value). GoodHeld types owner permits (Ending own number number names A R under)
           (ranges turns body (values.number kind told.0) v m left)) (sym told.3)
-          (good_where owner (Ending own number number names A R under) (same_kind kind kind)
+          (good_where owner _ (Ending own number number names A R under) (same_kind kind kind)
           (if int_lt told.1 told.0 then pure falls else for_turns turns (body kind) told.0 told.1) m left (same_kinds kind)
           (go (int_lt told.1 told.0) told.0 told.1 m left
           (turns_safe turns number kind own A R

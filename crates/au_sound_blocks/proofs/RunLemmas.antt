@@ -48,14 +48,14 @@ use Rattle.au_sound_blocks.proofs.LeaveLemmas.{discard_safe, return_safe}
 use Rattle.au_sound_blocks.proofs.LendLemmas.{borrow_in_safe}
 use Rattle.au_sound_blocks.proofs.LoopLemmas.{ends_based, for_safe, good_does, test_safe, while_safe}
 use Rattle.au_sound_blocks.proofs.StateLemmas.{Ends, Goes, ends_then, falls_on, goes_later, goes_with, within_safe}
-use Rattle.au_sound_blocks.specs.Held.{GoodHeld, Permits}
+use Rattle.au_sound_expressions.specs.Held.{GoodHeld, Permits}
 
 -- one flow or another, by a fact of which each side is known
-either_safe : {cuts : World → Type 0} (owner : ClosedType → Option (List ℕ)) (q : Flow → World → Type 0) (b : Bool) (X Y : Type 0)
+either_safe : (owner : ClosedType → Option (List ℕ)) (cuts : World → Type 0) (q : Flow → World → Type 0) (b : Bool) (X Y : Type 0)
     (one two : Action Flow) (w : World) (ticks : ℕ) → Either b X Y → (X → GoodBy owner cuts q (one w ticks))
     → (Y → GoodBy owner cuts q (two w ticks)) → GoodBy owner cuts q (either b one two w ticks)
-either_safe owner q true X Y one two w ticks fits goes_one goes_two = goes_one fits
-either_safe owner q false X Y one two w ticks fits goes_one goes_two = goes_two fits
+either_safe owner cuts q true X Y one two w ticks fits goes_one goes_two = goes_one fits
+either_safe owner cuts q false X Y one two w ticks fits goes_one goes_two = goes_two fits
 
 module _ (types : Types) (owner : ClosedType → Option (List ℕ)) {V W : Type 0} (permits : Permits V W)
     (laws : StepsAreSafe types owner) (key : V) (loose : ℕ → Bool)
@@ -76,7 +76,7 @@ module _ (types : Types) (owner : ClosedType → Option (List ℕ)) {V W : Type 
       → GoodHeld types owner permits (Ending own kept next names A R under) (m w ticks)
       → GoodHeld types owner permits (Ending own less later names A R under) (m w ticks)
   weaker own kept less next later names A R under m w ticks fewer more good =
-      good_so owner (Ending own kept next names A R under) (Ending own less later names A R under) (m w ticks)
+      good_so owner _ (Ending own kept next names A R under) (Ending own less later names A R under) (m w ticks)
       (λ flow n ended. ends_based types owner permits laws key loose result below base fs sizes size running see known invoke calls_safe
       waiting own kept less next later names names A R R under flow n fewer more (λ k below_it. refl) (λ ns says. says) ended)
       good
@@ -88,7 +88,7 @@ module _ (types : Types) (owner : ClosedType → Option (List ℕ)) {V W : Type 
       → GoodHeld types owner permits (Ending own kept next before A (λ ns. Unit {0}) under) (m w ticks)
       → GoodHeld types owner permits (Ending own less later others A (λ ns. Unit {0}) under) (m w ticks)
   rebased own kept less next later before others A under m w ticks fewer more same good =
-      good_so owner (Ending own kept next before A (λ ns. Unit {0}) under)
+      good_so owner _ (Ending own kept next before A (λ ns. Unit {0}) under)
       (Ending own less later others A (λ ns. Unit {0}) under) (m w ticks)
       (λ flow n ended. ends_based types owner permits laws key loose result below base fs sizes size running see known invoke calls_safe
       waiting own kept less next later before others A (λ ns. Unit {0}) (λ ns. Unit {0}) under flow n fewer more same
@@ -187,7 +187,7 @@ module _ (types : Types) (owner : ClosedType → Option (List ℕ)) {V W : Type 
       within_safe types owner permits laws key loose result below base fs sizes size running own number (1 + names_in_block block) names
       (λ d. (k : ℕ) → d k ≡ h k) (λ ns. Unit {0}) (λ ns. ns ≡ names) under
       (holds number (values.number kind z) >> run_all see invoke depth (number + 1) scope block) w ticks room refl
-      (good_does owner
+      (good_does owner _
       (Ending own number (number + (1 + names_in_block block)) names
       (Over see loose number (1 + names_in_block block) (λ d. (k : ℕ) → d k ≡ h k)) (λ ns. Unit {0}) under)
       (with_value number (Some (values.number kind z))) (run_all see invoke depth (number + 1) scope block) w ticks
@@ -379,7 +379,7 @@ module _ (types : Types) (owner : ClosedType → Option (List ℕ)) {V W : Type 
         absurd runs
     arms_safe (arms at name binds block rest) number scope note own A S h names under parts tag ts w ticks kept next fewer
         more room says ahead runs typed going =
-        either_safe owner (Ending own kept next names A S under) (means_case see note name.name tag) _ _
+        either_safe owner _ (Ending own kept next names A S under) (means_case see note name.name tag) _ _
         (within number (length binds + names_in_block block)
         (statement.binds_fields number binds (fields_told see note tag) (values_of parts)
         >> run_all see invoke depth (number + length binds) (with_bound (fields_told see note tag) number binds scope) block))
