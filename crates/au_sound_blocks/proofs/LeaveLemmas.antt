@@ -54,13 +54,15 @@ follows_apart (cut w) go more = refl
 follows_apart (no_rule w left) go more = refl
 
 -- a value that is set or put is so in the store alone
-pub good_sets : (owner : ClosedType → Option (List ℕ)) (cuts : World → Type 0) (q : Value → World → Type 0) (x : ℕ) (path : List ℕ) (v : Value)
+pub good_sets : (owner : ClosedType → Option (List ℕ)) (cuts : World → Type 0) (q : Value → World → Type 0) (x : ℕ)
+    (path : List ℕ) (v : Value)
     (w : World) (ticks : ℕ) → GoodBy owner cuts q (sets x path v w ticks)
     → GoodBy owner cuts (λ (old : Value) n. q old n × (lying_in n ≡ lying_in w)) (sets x path v w ticks)
 good_sets owner cuts q x path v w ticks good =
     good_stored owner cuts q (exchanged (place_of x path w) v w.store) w ticks good
 
-put_keeps : (owner : ClosedType → Option (List ℕ)) (cuts : World → Type 0) (q : Value → World → Type 0) (o : Option (ℕ × Place)) (v : Value)
+put_keeps : (owner : ClosedType → Option (List ℕ)) (cuts : World → Type 0) (q : Value → World → Type 0)
+    (o : Option (ℕ × Place)) (v : Value)
     (w : World) (ticks : ℕ) → GoodBy owner cuts q (follows (needing o pure w ticks) (λ one. puts one v))
     → GoodBy owner cuts (λ (old : Value) n. q old n × (lying_in n ≡ lying_in w))
     (follows (needing o pure w ticks) (λ one. puts one v))
@@ -68,7 +70,8 @@ unfolding follows
 put_keeps owner cuts q None v w ticks good = absurd good
 put_keeps owner cuts q (Some one) v w ticks good = good_stored owner cuts q (put_behind one v w.store) w ticks good
 
-pub good_puts : (owner : ClosedType → Option (List ℕ)) (cuts : World → Type 0) (q : Value → World → Type 0) (x : ℕ) (path : List ℕ) (v : Value)
+pub good_puts : (owner : ClosedType → Option (List ℕ)) (cuts : World → Type 0) (q : Value → World → Type 0) (x : ℕ)
+    (path : List ℕ) (v : Value)
     (w : World) (ticks : ℕ) → GoodBy owner cuts q (follows (refers x path w ticks) (λ one. puts one v))
     → GoodBy owner cuts (λ (old : Value) n. q old n × (lying_in n ≡ lying_in w))
     (follows (refers x path w ticks) (λ one. puts one v))
@@ -82,11 +85,14 @@ module _ (types : Types) (owner : ClosedType → Option (List ℕ)) {V W : Type 
     (invoke : I → List Value → Action Value) (calls_safe : CallsSafe types owner permits known invoke)
     (waiting : AllWait permits (is_active below) fs) where
   abbrev Gos : List Act → ℕ → Standing → Names → Made → World → Type 0
-  Gos own number h names under w = Goes types owner permits laws key loose result below base fs sizes size running own number h names under w
+  Gos own number h names under w = Goes types owner permits laws key loose result below base fs sizes size running own
+      number h names under w
 
-  abbrev Ending : List Act → (kept next : ℕ) → Names → (Standing → Type 0) → (Names → Type 0) → Made → Flow → World → Type 0
+  abbrev Ending : List Act → (kept next : ℕ) → Names → (Standing → Type 0) → (Names → Type 0) → Made → Flow → World
+      → Type 0
   Ending own kept next before A R under flow w =
-      Ends types owner permits laws key loose result below base fs sizes size running own kept next before A R under flow w
+      Ends types owner permits laws key loose result below base fs sizes size running own kept next before A R under
+      flow w
 
   -- ---- a value is dropped
 
@@ -113,19 +119,19 @@ module _ (types : Types) (owner : ClosedType → Option (List ℕ)) {V W : Type 
       good_then owner _
       (Valued types owner permits laws key loose result below base fs sizes size running own number (MayDrop types)
       (after_whole see loose scope e h) names under) q (whole see invoke scope e w ticks) (λ v. tick (pure falls))
-      (values_safe types owner permits laws key loose result below base fs sizes size running see known invoke calls_safe waiting
-      (MayDrop types) scope e own number h names under w ticks
+      (values_safe types owner permits laws key loose result below base fs sizes size running see known invoke
+      calls_safe waiting (MayDrop types) scope e own number h names under w ticks
       (λ z off. let fit = fits z off in (fit.0, fit.2, fit.1)) steps.0 going)
       (λ v n left valued.
-      ticks_on types owner permits laws key loose result below base fs sizes size running waiting q (pure falls) own number
-      (after_whole see loose scope e h) names ((v, valued.of) ∷ under) n left valued.going
+      ticks_on types owner permits laws key loose result below base fs sizes size running waiting q (pure falls) own
+      number (after_whole see loose scope e h) names ((v, valued.of) ∷ under) n left valued.going
       (λ more.
       falls_on types owner permits laws key loose result below base fs sizes size running own number number
       (after_whole see loose scope e h) names A R under n steps.1 says
       (goes_with types owner permits laws key loose result below base fs sizes size running own number
       (after_whole see loose scope e h) names ((v, valued.of) ∷ under) under n n refl
-      (laws.dropped (own ++ below) (frame (after_whole see loose scope e h) names ∷ fs) sizes under n laws.actions.typed v
-      valued.of
+      (laws.dropped (own ++ below) (frame (after_whole see loose scope e h) names ∷ fs) sizes under n laws.actions.typed
+      v valued.of
       (droppable own (after_whole see loose scope e h) names under v valued.of n valued.is valued.state) valued.state)
       valued.going)))
 
@@ -144,8 +150,8 @@ module _ (types : Types) (owner : ClosedType → Option (List ℕ)) {V W : Type 
       let q = Ending own number number names A R under in
       good_then owner _
       (λ (v : Value) n. After types owner permits (a ∷ (own ++ below)) names fs sizes a.token h
-      (λ k. (uses see k scope e).consumed) (λ k. unmentioned) ((v, result) ∷ under) n) q (eval see invoke scope e w ticks)
-      (λ v. tick (pure (returns v)))
+      (λ k. (uses see k scope e).consumed) (λ k. unmentioned) ((v, result) ∷ under) n) q (eval see invoke scope e w
+      ticks) (λ v. tick (pure (returns v)))
       (eval_safe types owner permits laws.actions a (own ++ below) names fs sizes size running
       (all_held permits (is_active below) fs waiting) see known invoke calls_safe
       (all_more permits (is_active below) (is_active (a ∷ (own ++ below)))
@@ -166,8 +172,8 @@ module _ (types : Types) (owner : ClosedType → Option (List ℕ)) {V W : Type 
         bottom = going.bottom;
         state = after.state;
       } in
-      ticks_on types owner permits laws key loose result below base fs sizes size running waiting q (pure (returns v)) (a ∷ own) size after.hold
-      names ((v, result) ∷ under) n left gone
+      ticks_on types owner permits laws key loose result below base fs sizes size running waiting q (pure (returns v))
+      (a ∷ own) size after.hold names ((v, result) ∷ under) n left gone
       (λ more. record {
         newest = a;
         own = own;

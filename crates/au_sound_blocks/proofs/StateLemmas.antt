@@ -7,7 +7,7 @@ use Rattle.au_types.specs.Types.{Meaning, writes}
 use Rattle.au_syntax.specs.Expressions.{Expression}
 use Rattle.au_syntax.specs.Plain.{Bytes}
 use Rattle.au_memory.specs.Forests as forest
-use Rattle.au_memory.specs.Forests.{Hold, Made, empty}
+use Rattle.au_memory.specs.Forests.{Made, empty}
 use Rattle.au_memory.specs.Loans.{Types}
 use Rattle.au_lending.specs.Laws.{IsReadable}
 use Rattle.au_sound_expressions.specs.Orders.{Act, Lying, is_active}
@@ -39,13 +39,15 @@ use Rattle.au_sound_expressions.specs.Held.{GoodHeld, IsCutSo, IsPermitted, Perm
 -- ---- actions that change the store alone
 
 -- the world becomes another, and the statement falls through
-pub good_falls : (owner : ClosedType → Option (List ℕ)) (cuts : World → Type 0) (q : Flow → World → Type 0) (change : World → World) (w : World)
+pub good_falls : (owner : ClosedType → Option (List ℕ)) (cuts : World → Type 0) (q : Flow → World → Type 0)
+    (change : World → World) (w : World)
     (ticks : ℕ) → q falls (change w) → GoodBy owner cuts q ((does change >> pure falls) w ticks)
 unfolding follows
 good_falls owner cuts q change w ticks good = good
 
 -- the borrows that lie open stay
-pub good_stored : {A : Type 0} (owner : ClosedType → Option (List ℕ)) (cuts : World → Type 0) (q : A → World → Type 0) (o : Option (A × Store))
+pub good_stored : {A : Type 0} (owner : ClosedType → Option (List ℕ)) (cuts : World → Type 0) (q : A → World → Type 0)
+    (o : Option (A × Store))
     (w : World) (ticks : ℕ) → GoodBy owner cuts q (found_in (stored o w) w ticks)
     → GoodBy owner cuts (λ (v : A) n. q v n × (lying_in n ≡ lying_in w)) (found_in (stored o w) w ticks)
 good_stored owner cuts q None w ticks good = absurd good
@@ -66,7 +68,8 @@ module _ (types : Types) (owner : ClosedType → Option (List ℕ)) {V W : Type 
     (result : Meaning) (below : List Act) (base : Lying) (fs : List Frame) (sizes : List ℕ) (size : ℕ)
     (running : IsRunning sizes fs size) where
   abbrev pub Goes : List Act → ℕ → Standing → Names → Made → World → Type 0
-  Goes own number h names under w = Going types owner permits key loose result below base fs sizes size own number h names under w
+  Goes own number h names under w = Going types owner permits key loose result below base fs sizes size own number h
+      names under w
 
   abbrev pub Ends : List Act → (kept next : ℕ) → Names → (Standing → Type 0) → (Names → Type 0) → Made → Flow → World
       → Type 0
@@ -136,7 +139,8 @@ module _ (types : Types) (owner : ClosedType → Option (List ℕ)) {V W : Type 
   }
 
   -- how a statement ends, said with less
-  pub ends_more : (own : List Act) (kept less next later : ℕ) (before : Names) (A : Standing → Type 0) (R S : Names → Type 0)
+  pub ends_more : (own : List Act) (kept less next later : ℕ) (before : Names) (A : Standing → Type 0)
+      (R S : Names → Type 0)
       (under : Made) (flow : Flow) (w : World) → less ≤ kept → next ≤ later → ((ns : Names) → R ns → S ns)
       → Ends own kept next before A R under flow w → Ends own less later before A S under flow w
   ends_more own kept less next later before A R S under falls w fewer more so fell = record {
@@ -163,15 +167,17 @@ module _ (types : Types) (owner : ClosedType → Option (List ℕ)) {V W : Type 
   }
 
   -- one statement, and then what follows where it falls through
-  pub ends_then : (own others : List Act) (kept next more_kept later : ℕ) (before names : Names) (A B : Standing → Type 0)
+  pub ends_then : (own others : List Act) (kept next more_kept later : ℕ) (before names : Names)
+      (A B : Standing → Type 0)
       (R S : Names → Type 0) (under : Made) (first : Action Flow) (more : Action Flow) (w : World) (ticks : ℕ)
       → GoodHeld types owner permits (Ends own kept next before A R under) (first w ticks)
-      → ((n : World) (left : ℕ) → Fell types owner permits key loose result below base fs sizes size own kept next before A R under n
+      → ((n : World) (left : ℕ) → Fell types owner permits key loose result below base fs sizes size own kept next
+      before A R under n
       → GoodHeld types owner permits (Ends others more_kept later names B S under) (more n left))
       → GoodHeld types owner permits (Ends others more_kept later names B S under) ((first >>= and_then more) w ticks)
   ends_then own others kept next more_kept later before names A B R S under first more w ticks good go =
-      good_then owner _ (Ends own kept next before A R under) (Ends others more_kept later names B S under) (first w ticks)
-      (and_then more) good by
+      good_then owner _ (Ends own kept next before A R under) (Ends others more_kept later names B S under)
+      (first w ticks) (and_then more) good by
     where
       by : (flow : Flow) (n : World) (left : ℕ) → Ends own kept next before A R under flow n
           → GoodHeld types owner permits (Ends others more_kept later names B S under) (and_then more flow n left)
@@ -259,7 +265,8 @@ module _ (types : Types) (owner : ClosedType → Option (List ℕ)) {V W : Type 
 
   -- a block, of which so many names are emptied where it falls through
   pub within_safe : (own : List Act) (number count : ℕ) (before : Names) (A : Standing → Type 0) (R : Names → Type 0)
-      (S : Names → Type 0) (under : Made) (block : Action Flow) (w : World) (ticks : ℕ) → number + count ≤ size → S before
+      (S : Names → Type 0) (under : Made) (block : Action Flow) (w : World) (ticks : ℕ) → number + count ≤ size
+      → S before
       → GoodHeld types owner permits
       (Ends own number (number + count) before
       (λ h. ((k : ℕ) → number ≤ k → k < number + count → IsOver (loose k) (h k)) × A (put_each number count empty h)) R
@@ -268,15 +275,15 @@ module _ (types : Types) (owner : ClosedType → Option (List ℕ)) {V W : Type 
       → GoodHeld types owner permits (Ends own number number before A S under) (within number count block w ticks)
   within_safe own number count before A R S under block w ticks room says good =
       ends_then own own number (number + count) number number before before
-      (λ h. ((k : ℕ) → number ≤ k → k < number + count → IsOver (loose k) (h k)) × A (put_each number count empty h)) A R S
-      under block (empties number count) w ticks good
+      (λ h. ((k : ℕ) → number ≤ k → k < number + count → IsOver (loose k) (h k)) × A (put_each number count empty h)) A
+      R S under block (empties number count) w ticks good
       (λ n left fell. emptied_on own number count before A R S under n left room says fell)
 
   -- ---- whole expressions
 
   -- what a whole expression leaves of the frame, and its value
-  pub record Valued (own : List Act) (number : ℕ) (A : Meaning → Type 0) (hold : Standing) (names : Names) (under : Made)
-      (v : Value) (n : World) : Type 0 where
+  pub record Valued (own : List Act) (number : ℕ) (A : Meaning → Type 0) (hold : Standing) (names : Names)
+      (under : Made) (v : Value) (n : World) : Type 0 where
     pub of : Meaning
     pub is : A of
     pub going : Goes own number hold names ((v, of) ∷ under) n
@@ -292,12 +299,13 @@ module _ (types : Types) (owner : ClosedType → Option (List ℕ)) {V W : Type 
         → ((z : ℕ) → is_active (own ++ below) z ≡ false
         → (t : Meaning) × A t × IsOf types owner see known names z (with_token z (is_active (own ++ below))) scope e t)
         → AreReady h (λ k. uses see k scope e) → Goes own number h names under w
-        → GoodHeld types owner permits (Valued own number A (after_whole see loose scope e h) names under) (whole see invoke scope e w ticks)
+        → GoodHeld types owner permits (Valued own number A (after_whole see loose scope e h) names under)
+        (whole see invoke scope e w ticks)
     values_safe A scope e own number h names under w ticks fits met going =
         let counts = λ (k : ℕ). (uses see k scope e).consumed in
         good_so owner _
-        (Gave types owner permits laws.actions (own ++ below) names fs sizes size running see known invoke calls_safe (all_wait own)
-        A (λ k. spent (uses see k scope e).consumed (h k)) under (lying_in w))
+        (Gave types owner permits laws.actions (own ++ below) names fs sizes size running see known invoke calls_safe
+        (all_wait own) A (λ k. spent (uses see k scope e).consumed (h k)) under (lying_in w))
         (Valued own number A (after_whole see loose scope e h) names under) (whole see invoke scope e w ticks)
         (λ v n gave. record {
           of = gave.of;
@@ -311,8 +319,9 @@ module _ (types : Types) (owner : ClosedType → Option (List ℕ)) {V W : Type 
           };
           state = gave.state;
         })
-        (whole_safe types owner permits laws.actions (own ++ below) names fs sizes size running see known invoke calls_safe
-        (all_wait own) A scope e h under w ticks fits met (stands own number h names under w going) going.state)
+        (whole_safe types owner permits laws.actions (own ++ below) names fs sizes size running see known invoke
+        calls_safe (all_wait own) A scope e h under w ticks fits met (stands own number h names under w going)
+        going.state)
       where
         fine_on : (k : ℕ) → (h k ≡ empty) ⊎ IsFine types loose permits key k (names k)
             → (spent (uses see k scope e).consumed (h k) ≡ empty) ⊎ IsFine types loose permits key k (names k)
@@ -324,7 +333,8 @@ module _ (types : Types) (owner : ClosedType → Option (List ℕ)) {V W : Type 
         (h : Standing) (names : Names) (under : Made) (w : World) (ticks : ℕ)
         → IsWholeOf types owner see known result loose permits key (is_active (own ++ below)) names scope e t
         → AreReady h (λ k. uses see k scope e) → Goes own number h names under w
-        → GoodHeld types owner permits (λ (v : Value) n. Goes own number (after_whole see loose scope e h) names ((v, t) ∷ under) n)
+        → GoodHeld types owner permits (λ (v : Value) n. Goes own number (after_whole see loose scope e h) names
+        ((v, t) ∷ under) n)
         (whole see invoke scope e w ticks)
     value_safe t scope e own number h names under w ticks fits met going =
         good_so owner _ (Valued own number (λ (u : Meaning). u ≡ t) (after_whole see loose scope e h) names under)
@@ -332,5 +342,5 @@ module _ (types : Types) (owner : ClosedType → Option (List ℕ)) {V W : Type 
         (whole see invoke scope e w ticks)
         (λ v n valued. subst (λ (u : Meaning).
         Goes own number (after_whole see loose scope e h) names ((v, u) ∷ under) n) valued.is valued.going)
-        (values_safe (λ (u : Meaning). u ≡ t) scope e own number h names under w ticks (λ z off. (t, refl, fits z off)) met
-        going)
+        (values_safe (λ (u : Meaning). u ≡ t) scope e own number h names under w ticks (λ z off. (t, refl, fits z off))
+        met going)
