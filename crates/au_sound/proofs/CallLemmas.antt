@@ -23,7 +23,7 @@ use Rattle.au_safe_ships.specs.Good.{IsIn, IsRunning, lying_in}
 use Rattle.au_safe_ships.specs.Making.{values_of}
 use Rattle.au_safe_ships.proofs.GoodLemmas.{good_so, good_then}
 use Rattle.au_sound_blocks.specs.Blocks.{AllRun, IsFine, MayRun, Names, with_types}
-use Rattle.au_sound_blocks.specs.Known.{AreActive, Callables}
+use Rattle.au_sound_blocks.specs.Known.{AreActive, Callables, Calls, callees}
 use Rattle.au_sound_blocks.specs.Lives.{IsOver, Standing, freed_each, put_each}
 use Rattle.au_sound_blocks.specs.Safe.{AllWait, CallsSafe, Waits, frame}
 use Rattle.au_sound_blocks.proofs.LeafLemmas.{good_where, length_values}
@@ -52,10 +52,10 @@ freed_none [] h is = is
 freed_none (z ∷ zs) h is = freed_none zs (freed z h) (ap (freed z) is)
 
 module _ (types : Types) (owner : ClosedType → Option (List ℕ)) {K W : Type 0} (permits : Permits K W)
-    (laws : RunsAreSafe types owner) {I T C : Type 0}
-    (known : Callables I K) (invoke : I → List Value → Action Value)
-    (calls_safe : CallsSafe types owner permits known invoke) (depth : ℕ) (f : Function I T C) (key : K)
-    (may : MayRun types owner permits known f key) (acts : List Act) (fs : List Frame) (sizes : List ℕ) (made under : Made)
+    (laws : RunsAreSafe types owner) {I T C E : Type 0}
+    (known : Callables I K) (calls : Calls K E) (invoke : I → List Value → Action Value) (key : K)
+    (calls_safe : CallsSafe types owner permits (callees known calls key) invoke) (depth : ℕ) (f : Function I T C)
+    (may : MayRun types owner permits known calls f key) (acts : List Act) (fs : List Frame) (sizes : List ℕ) (made under : Made)
     (active : AreActive (is_active acts) (known.tokens key)) (waiting : AllWait permits (is_active acts) fs)
     (many : length sizes ≡ length fs) (typed : types_made made ≡ known.parameters key) where
   abbrev args : List Value
@@ -107,7 +107,7 @@ module _ (types : Types) (owner : ClosedType → Option (List ℕ)) {K W : Type 
         ⊎ IsFine types may.loose permits key k (names k))
         (sym may.many)
         (fine_each types owner permits laws.steps key may.loose (known.result key) acts (lying_in w) fs more_sizes size running f.view
-        known invoke calls_safe waiting f.first (known.parameters key) (λ k. empty) may.names may.fine
+        (callees known calls key) invoke calls_safe waiting f.first (known.parameters key) (λ k. empty) may.names may.fine
         (λ k. inl refl));
     bottom = refl;
     state = laws.steps.renamed acts fs more_sizes under w hold (frame_of f.first made).type names given
@@ -149,8 +149,8 @@ module _ (types : Types) (owner : ClosedType → Option (List ℕ)) {K W : Type 
       (λ ns. Unit {0}) under) q
       (run_all f.view invoke depth (f.first + length f.parameters) (scope_of f) f.body w ticks)
       (and_then (empties (f.first + length f.parameters) (names_in_block f.body)))
-      (all_safe types owner permits laws.steps key may.loose (known.result key) acts (lying_in w) fs more_sizes size running f.view known
-      invoke calls_safe waiting depth f.body (f.first + length f.parameters) (scope_of f) [] (λ h. ⊥) hold names under w
+      (all_safe types owner permits laws.steps key may.loose (known.result key) acts (lying_in w) fs more_sizes size running f.view
+      (callees known calls key) invoke calls_safe waiting depth f.body (f.first + length f.parameters) (scope_of f) [] (λ h. ⊥) hold names under w
       ticks may.ahead (may.runs (is_active acts) active) (omega arith) (began w state)) ends)
       gave
     where
@@ -278,10 +278,10 @@ module _ (types : Types) (owner : ClosedType → Option (List ℕ)) {K W : Type 
 
 pub calls_at_safe : (types : Types) (owner : ClosedType → Option (List ℕ)) {K W : Type 0} (permits : Permits K W)
     (laws : RunsAreSafe types owner)
-    {I T C : Type 0} (known : Callables I K) (functions : I → Option (Function I T C))
-    → AllRun types owner permits known functions → (depth : ℕ) → CallsSafe types owner permits known (call_at functions depth)
+    {I T C E : Type 0} (known : Callables I K) (calls : Calls K E) (functions : I → Option (Function I T C))
+    → AllRun types owner permits known calls functions → (depth : ℕ) → CallsSafe types owner permits known (call_at functions depth)
 unfolding call_at
-calls_at_safe types owner permits laws known functions all zero key acts fs sizes made under w ticks active waiting many typed
+calls_at_safe types owner permits laws known calls functions all zero key acts fs sizes made under w ticks active waiting many typed
     state = (
       laws.steps.actions.told acts fs sizes (onto made under) w state,
       record {
@@ -293,12 +293,12 @@ calls_at_safe types owner permits laws known functions all zero key acts fs size
         held = all_held permits (is_active acts) fs waiting;
       },
     )
-calls_at_safe types owner permits laws known functions all (suc depth) key acts fs sizes made under w ticks active waiting many
+calls_at_safe types owner permits laws known calls functions all (suc depth) key acts fs sizes made under w ticks active waiting many
     typed state =
     let one = all key in
     subst (λ o. GoodHeld types owner permits
     (λ (v : Value) n. IsIn types owner acts fs sizes ((v, known.result key) ∷ under) n × (lying_in n ≡ lying_in w))
     (enters (call_at functions depth) depth o (values_of made) w ticks)) (sym one.1)
-    (enters_good types owner permits laws known (call_at functions depth)
-    (calls_at_safe types owner permits laws known functions all depth) depth one.0 key one.2 acts fs sizes made under active waiting
+    (enters_good types owner permits laws known calls (call_at functions depth) key
+    (λ call. calls_at_safe types owner permits laws known calls functions all depth (calls.to call.0)) depth one.0 one.2 acts fs sizes made under active waiting
     many typed w ticks state)

@@ -11,7 +11,7 @@ use Rattle.au_meaning.specs.Views.{Field, Function}
 use Rattle.au_meaning.specs.Worlds.{Value, World, exit, running}
 use Rattle.au_safe_ships.specs.Good.{IsIn, lying_in}
 use Rattle.au_sound_blocks.specs.Blocks.{AllRun}
-use Rattle.au_sound_blocks.specs.Known.{AreActive, Callables}
+use Rattle.au_sound_blocks.specs.Known.{AreActive, Callables, Calls}
 use Rattle.au_sound_blocks.proofs.LoopLemmas.{good_does}
 use Rattle.au_safe_ships.specs.Beginning.{IsExitOf}
 use Rattle.au_sound.specs.Runs.{EndsWell, HoldsWhereCut, IsSeenWell, RunsAreSafe, RunsWell, TakesRoot}
@@ -54,8 +54,8 @@ module _ (types : Types) (owner : ClosedType → Option (List ℕ)) {K W : Type 
   holds_well t exits ticks (cut n) good is = good.1
   holds_well t exits ticks (no_rule n left) good is = absurd good
 
-  module _ {I T C : Type 0} (known : Callables I K) (functions : I → Option (Function I T C))
-      (all : AllRun types owner permits known functions) (key : K) (open_none : known.tokens key ≡ []) (depth : ℕ) where
+  module _ {I T C E : Type 0} (known : Callables I K) (calls : Calls K E) (functions : I → Option (Function I T C))
+      (all : AllRun types owner permits known calls functions) (key : K) (open_none : known.tokens key ≡ []) (depth : ℕ) where
     none_active : (active : ℕ → Bool) → AreActive active (known.tokens key)
     none_active active = subst (AreActive active) (sym open_none) tt
 
@@ -63,25 +63,25 @@ module _ (types : Types) (owner : ClosedType → Option (List ℕ)) {K W : Type 
         → (input : List ℕ) (ticks : ℕ)
         → GoodHeld types owner permits (Gave (known.result key)) (begun ps (call_at functions depth (known.of key)) (first_world input) ticks)
     begun_good [] [] takes same input ticks =
-        calls_at_safe types owner permits laws known functions all depth key [] [] [] [] [] (first_world input) ticks
+        calls_at_safe types owner permits laws known calls functions all depth key [] [] [] [] [] (first_world input) ticks
         (none_active (is_active [])) tt refl same (laws.starts types owner input)
     begun_good [] (p ∷ ps) takes same input ticks = absurd takes
     begun_good (t ∷ []) [] takes same input ticks = absurd takes
     begun_good (t ∷ []) (p ∷ []) takes same input ticks =
         good_does owner _ (Gave (known.result key)) (root_born p.of)
         (call_at functions depth (known.of key) (root 0 ∷ [])) (first_world input) ticks
-        (calls_at_safe types owner permits laws known functions all depth key [] [] [] ((root 0, t) ∷ []) []
+        (calls_at_safe types owner permits laws known calls functions all depth key [] [] [] ((root 0, t) ∷ []) []
         (root_born p.of (first_world input)) ticks (none_active (is_active [])) tt refl same
         (laws.rooted [] [] [] [] (first_world input) t p.of takes.0 takes.1 (laws.starts types owner input)))
     begun_good (t ∷ []) (p ∷ r ∷ ps) takes same input ticks = absurd takes
     begun_good (t ∷ u ∷ ts) ps takes same input ticks = absurd takes
 
-  pub runs_well : {I T C : Type 0} (known : Callables I K) (functions : I → Option (Function I T C))
-      → RunsWell types owner permits known functions
-  runs_well known functions all key entry input ticks =
+  pub runs_well : {I T C E : Type 0} (known : Callables I K) (calls : Calls K E) (functions : I → Option (Function I T C))
+      → RunsWell types owner permits known calls functions
+  runs_well known calls functions all key entry input ticks =
       let out = begun (parameters_of (functions (known.of key))) (call_at functions (suc ticks) (known.of key))
       (first_world input) ticks in
-      let good = begun_good known functions all key entry.open_none (suc ticks) (known.parameters key)
+      let good = begun_good known calls functions all key entry.open_none (suc ticks) (known.parameters key)
       (parameters_of (functions (known.of key))) entry.takes refl input ticks in (
         seen_well (known.result key) entry.gives ticks out good,
         holds_well (known.result key) entry.gives ticks out good,
