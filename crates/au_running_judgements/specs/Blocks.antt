@@ -27,7 +27,7 @@ use Rattle.au_memory.specs.Loans.{Types}
 use Rattle.au_memory.specs.Forests.{empty, ready}
 use Rattle.au_running_judgements.specs.Expressions.{Borrows, IsNamed, IsOf, LooksInto, Reaches}
 use Rattle.au_running_judgements.specs.Held.{IsPermitted, Permits}
-use Rattle.au_running_judgements.specs.Known.{AreActive, Callables, InScope, with_token}
+use Rattle.au_running_judgements.specs.Known.{AreActive, Callables, Calls, InScope, callees, with_token}
 use Rattle.au_running_judgements.specs.Lives.{AheadAll, put, put_each}
 use Rattle.au_safe_steps.specs.Binding.{bound_fields, field_names}
 use Rattle.au_safe_steps.specs.Orders.{AreApart, IsReordered}
@@ -207,23 +207,24 @@ module _ (types : Types) (owner : ClosedType → Option (List ℕ)) {I T C K : T
 -- ---- functions
 
 -- A function may be run at a key: it has as many parameters, and its body runs, whichever tokens are active
--- besides those of the key, and returns on each way. Its names hold what they may at the key.
+-- besides those of the key, and returns on each way. Its names hold what they may at the key, and it makes
+-- these calls alone.
 pub record MayRun (types : Types) (owner : ClosedType → Option (List ℕ)) {K W : Type 0}
-    (permits : Permits K W) {I T C : Type 0} (known : Callables I K) (f : Function I T C) (key : K) : Type 0
-    where
+    (permits : Permits K W) {I T C E : Type 0} (known : Callables I K) (calls : Calls K E)
+    (f : Function I T C) (key : K) : Type 0 where
   pub many : length f.parameters ≡ length (known.parameters key)
   pub names : Names
   pub loose : ℕ → Bool
   pub fine : AreFine types loose permits key f.first (known.parameters key)
   pub runs : (active : ℕ → Bool) → AreActive active (known.tokens key)
-      → RunsAll types owner f.view known (known.result key) loose permits key active
+      → RunsAll types owner f.view (callees known calls key) (known.result key) loose permits key active
       (f.first + length f.parameters) (scope_of f) f.body (with_types f.first (known.parameters key) names)
   pub ahead : AheadAll f.view loose (f.first + length f.parameters) (scope_of f) [] f.body (λ h. ⊥)
       (put_each f.first (length f.parameters) ready (λ k. empty))
 
 -- Each function that may be called is there, and may be run.
 abbrev pub AllRun : (types : Types) → (ClosedType → Option (List ℕ)) → {K W : Type 0} → Permits K W
-    → {I T C : Type 0} → Callables I K → (I → Option (Function I T C)) → Type 0
-AllRun types owner {K} {W} permits {I} {T} {C} known functions =
+    → {I T C E : Type 0} → Callables I K → Calls K E → (I → Option (Function I T C)) → Type 0
+AllRun types owner {K} {W} permits {I} {T} {C} known calls functions =
     (key : K) → (f : Function I T C) × (functions (known.of key) ≡ Some f)
-    × MayRun types owner permits known f key
+    × MayRun types owner permits known calls f key

@@ -5,11 +5,11 @@ use Rattle.au_types.specs.Types.{Meaning}
 use Rattle.au_type_texts.specs.Types.{ClosedType}
 use Rattle.au_memory.specs.Forests.{Hold, Made, empty}
 use Rattle.au_memory.specs.Loans.{Types}
+use Rattle.au_borrows.specs.Orders.{Act}
 use Rattle.au_meaning.specs.Ticks.{Out}
 use Rattle.au_meaning.specs.Worlds.{World}
 use Rattle.au_safe_steps.specs.Frames.{Frame}
 use Rattle.au_safe_steps.specs.Good.{GoodBy, IsCutWell, IsIn}
-use Rattle.au_safe_steps.specs.Orders.{Act}
 
 -- What is permitted: each permit is for names of the functions that are called in one way, and for one type.
 pub record Permits (V W : Type 0) : Type 0 where

@@ -15,6 +15,22 @@ pub record Callables (I K : Type 0) : Type 0 where
   pub result : K → Meaning
   pub tokens : K → List ℕ
 
+-- Which calls functions make: each is made in the body of a function that is called in one way, and calls one
+-- in another.
+pub record Calls (K E : Type 0) : Type 0 where
+  pub from : E → K
+  pub to : E → K
+
+-- what may be called in the body of a function that is called so: each way to which a call of it leads
+abbrev pub callees : {I K E : Type 0} → Callables I K → (calls : Calls K E) → (key : K)
+    → Callables I ((one : E) × (calls.from one ≡ key))
+callees known calls key = record {
+  of = λ call. known.of (calls.to call.0);
+  parameters = λ call. known.parameters (calls.to call.0);
+  result = λ call. known.result (calls.to call.0);
+  tokens = λ call. known.tokens (calls.to call.0);
+}
+
 -- one token more is active
 abbrev pub with_token : ℕ → (ℕ → Bool) → ℕ → Bool
 with_token z active y = if z == y then true else active y

@@ -22,12 +22,13 @@ use Rattle.au_meaning.specs.Worlds.{Value, World}
 use Rattle.au_safe_ships.specs.Good.{IsIn, IsRunning, lying_in}
 use Rattle.au_safe_ships.specs.Making.{values_of}
 use Rattle.au_safe_ships.proofs.GoodLemmas.{good_so, good_then}
-use Rattle.au_sound_blocks.specs.Blocks.{AllRun, MayDrop, MayRun, Names, with_types}
-use Rattle.au_sound_blocks.specs.Known.{AreActive, Callables}
+use Rattle.au_sound_blocks.specs.Blocks.{AllRun, IsFine, MayRun, Names, with_types}
+use Rattle.au_sound_blocks.specs.Known.{AreActive, Callables, Calls, callees}
 use Rattle.au_sound_blocks.specs.Lives.{IsOver, Standing, freed_each, put_each}
 use Rattle.au_sound_blocks.specs.Safe.{AllWait, CallsSafe, Waits, frame}
 use Rattle.au_sound_blocks.proofs.LeafLemmas.{good_where, length_values}
 use Rattle.au_sound_blocks.proofs.PickLemmas.{length_types}
+use Rattle.au_sound_blocks.proofs.WaitLemmas.{all_held}
 use Rattle.au_sound_blocks.proofs.WholeLemmas.{good_closing}
 use Rattle.au_sound_blocks.specs.Flows.{Going, Returned, tokens}
 use Rattle.au_sound_blocks.proofs.FormLemmas.{fine_each}
@@ -50,11 +51,11 @@ freed_none : (zs : List ℕ) (h : Hold) → h ≡ empty → freed_each zs h ≡ 
 freed_none [] h is = is
 freed_none (z ∷ zs) h is = freed_none zs (freed z h) (ap (freed z) is)
 
-module _ (types : Types) (owner : ClosedType → Option (List ℕ)) {V W : Type 0} (permits : Permits V W)
-    (laws : RunsAreSafe types owner) {I T C K : Type 0}
-    (known : Callables I K) (invoke : I → List Value → Action Value)
-    (calls_safe : CallsSafe types owner permits known invoke) (depth : ℕ) (f : Function I T C) (key : K)
-    (may : MayRun types owner permits known f key) (acts : List Act) (fs : List Frame) (sizes : List ℕ) (made under : Made)
+module _ (types : Types) (owner : ClosedType → Option (List ℕ)) {K W : Type 0} (permits : Permits K W)
+    (laws : RunsAreSafe types owner) {I T C E : Type 0}
+    (known : Callables I K) (calls : Calls K E) (invoke : I → List Value → Action Value) (key : K)
+    (calls_safe : CallsSafe types owner permits (callees known calls key) invoke) (depth : ℕ) (f : Function I T C)
+    (may : MayRun types owner permits known calls f key) (acts : List Act) (fs : List Frame) (sizes : List ℕ) (made under : Made)
     (active : AreActive (is_active acts) (known.tokens key)) (waiting : AllWait permits (is_active acts) fs)
     (many : length sizes ≡ length fs) (typed : types_made made ≡ known.parameters key) where
   abbrev args : List Value
@@ -102,12 +103,12 @@ module _ (types : Types) (owner : ClosedType → Option (List ℕ)) {V W : Type 
   began w state = record {
     waits = each_way (Waits (is_active acts)) f.first (length f.parameters) forest.ready (λ k. empty) tt (λ k. tt);
     clear = λ k from. each_after f.first (length f.parameters) k forest.ready (λ k. empty) from;
-    fine = subst (λ (c : ℕ). (k : ℕ) → may.loose k ≡ true
-        → (put_each f.first c forest.ready (λ j. empty) k ≡ empty) ⊎ MayDrop types (names k))
+    fine = subst (λ (c : ℕ). (k : ℕ) → (put_each f.first c forest.ready (λ j. empty) k ≡ empty)
+        ⊎ IsFine types may.loose permits key k (names k))
         (sym may.many)
         (fine_each types owner permits laws.steps key may.loose (known.result key) acts (lying_in w) fs more_sizes size running f.view
-        known invoke calls_safe waiting f.first (known.parameters key) (λ k. empty) may.names may.fine
-        (λ k is. inl refl));
+        (callees known calls key) invoke calls_safe waiting f.first (known.parameters key) (λ k. empty) may.names may.fine
+        (λ k. inl refl));
     bottom = refl;
     state = laws.steps.renamed acts fs more_sizes under w hold (frame_of f.first made).type names given
         (subst (λ (h : Standing). IsIn types owner acts (frame h (frame_of f.first made).type ∷ fs) more_sizes under w)
@@ -140,16 +141,16 @@ module _ (types : Types) (owner : ClosedType → Option (List ℕ)) {V W : Type 
   body_good w ticks state =
       let q = Ends types owner permits laws.steps key may.loose (known.result key) acts (lying_in w) fs more_sizes size running []
       (f.first + length f.parameters) (f.first + length f.parameters) names (λ h. ⊥) (λ ns. Unit {0}) under in
-      good_then owner q (Done w)
+      good_then owner _ q (Done w)
       (run_block f.view invoke depth (f.first + length f.parameters) (scope_of f) f.body w ticks) returned
-      (good_then owner
+      (good_then owner _
       (Ends types owner permits laws.steps key may.loose (known.result key) acts (lying_in w) fs more_sizes size running []
       (f.first + length f.parameters) ((f.first + length f.parameters) + names_in_block f.body) names (λ h. ⊥)
       (λ ns. Unit {0}) under) q
       (run_all f.view invoke depth (f.first + length f.parameters) (scope_of f) f.body w ticks)
       (and_then (empties (f.first + length f.parameters) (names_in_block f.body)))
-      (all_safe types owner permits laws.steps key may.loose (known.result key) acts (lying_in w) fs more_sizes size running f.view known
-      invoke calls_safe waiting depth f.body (f.first + length f.parameters) (scope_of f) [] (λ h. ⊥) hold names under w
+      (all_safe types owner permits laws.steps key may.loose (known.result key) acts (lying_in w) fs more_sizes size running f.view
+      (callees known calls key) invoke calls_safe waiting depth f.body (f.first + length f.parameters) (scope_of f) [] (λ h. ⊥) hold names under w
       ticks may.ahead (may.runs (is_active acts) active) (omega arith) (began w state)) ends)
       gave
     where
@@ -187,7 +188,7 @@ module _ (types : Types) (owner : ClosedType → Option (List ℕ)) {V W : Type 
         waits = λ k. waits_over (is_active acts) (may.loose k)
             (freed_each (tokens (gone.newest ∷ gone.own)) (gone.hold k)) (gone.over k);
         clear = λ k from. freed_none (tokens (gone.newest ∷ gone.own)) (gone.hold k) (gone.going.clear k from);
-        fine = λ k is. fine_on k (gone.going.fine k is);
+        fine = λ k. fine_on k (gone.going.fine k);
         bottom = over.1;
         state = over.0;
       } in
@@ -205,10 +206,11 @@ module _ (types : Types) (owner : ClosedType → Option (List ℕ)) {V W : Type 
         over.1,
       )
     where
-      fine_on : (k : ℕ) → (gone.hold k ≡ empty) ⊎ MayDrop types (gone.names k)
-          → (freed_each (tokens (gone.newest ∷ gone.own)) (gone.hold k) ≡ empty) ⊎ MayDrop types (gone.names k)
+      fine_on : (k : ℕ) → (gone.hold k ≡ empty) ⊎ IsFine types may.loose permits key k (gone.names k)
+          → (freed_each (tokens (gone.newest ∷ gone.own)) (gone.hold k) ≡ empty)
+          ⊎ IsFine types may.loose permits key k (gone.names k)
       fine_on k (inl is) = inl (freed_none (tokens (gone.newest ∷ gone.own)) (gone.hold k) is)
-      fine_on k (inr drops) = inr drops
+      fine_on k (inr fine) = inr fine
 
   -- what is done behind a body
   leave_good : (q : Value → World → Type 0) (out : Out Value)
@@ -229,14 +231,14 @@ module _ (types : Types) (owner : ClosedType → Option (List ℕ)) {V W : Type 
       × (lying_in n ≡ lying_in w) in
       let w1 = begins (new_names f.first (values_of made) (names_in_block f.body)) w in
       let in_frame = laws.entered acts fs sizes under w f.first (names_in_block f.body) made many state in
-      good_where owner
+      good_where owner _
       (λ (v : Value) n. IsIn types owner acts fs sizes ((v, known.result key) ∷ under) n × (lying_in n ≡ lying_in w))
       (length (values_of made) == length f.parameters)
       (does (begins (new_names f.first (values_of made) (names_in_block f.body)))
       >> (closing (run_block f.view invoke depth (f.first + length (values_of made)) (scope_of f) f.body >>= returned)
       >>= (λ v. does ends_frame >> pure v))) w ticks
       (eq-eqb (length (values_of made)) (length f.parameters) count_args)
-      (good_does owner
+      (good_does owner _
       (λ (v : Value) n. IsIn types owner acts fs sizes ((v, known.result key) ∷ under) n × (lying_in n ≡ lying_in w))
       (begins (new_names f.first (values_of made) (names_in_block f.body)))
       (closing (run_block f.view invoke depth (f.first + length (values_of made)) (scope_of f) f.body >>= returned)
@@ -259,11 +261,11 @@ module _ (types : Types) (owner : ClosedType → Option (List ℕ)) {V W : Type 
           (closing (run_block f.view invoke depth (f.first + length f.parameters) (scope_of f) f.body >>= returned) m left)
       closed_good m left is =
           let counted = (laws.steps.actions.counted acts (frame_of f.first made ∷ fs) more_sizes under m).0 in
-          good_closing owner
+          good_closing owner _
           (λ (v : Value) n. IsIn types owner acts fs sizes ((v, known.result key) ∷ under) (ends_frame n)
           × (lying_in (ends_frame n) ≡ lying_in m))
           (run_block f.view invoke depth (f.first + length f.parameters) (scope_of f) f.body >>= returned) m left
-          (good_so owner (Done m)
+          (good_so owner _ (Done m)
           (λ (v : Value) n. IsIn types owner acts fs sizes ((v, known.result key) ∷ under)
           (ends_frame (closed_to (length m.borrows) n))
           × (lying_in (ends_frame (closed_to (length m.borrows) n)) ≡ lying_in m))
@@ -274,20 +276,29 @@ module _ (types : Types) (owner : ClosedType → Option (List ℕ)) {V W : Type 
 
 -- ---- calls in calls
 
-pub calls_at_safe : (types : Types) (owner : ClosedType → Option (List ℕ)) {V W : Type 0} (permits : Permits V W)
+pub calls_at_safe : (types : Types) (owner : ClosedType → Option (List ℕ)) {K W : Type 0} (permits : Permits K W)
     (laws : RunsAreSafe types owner)
-    {I T C K : Type 0} (known : Callables I K) (functions : I → Option (Function I T C))
-    → AllRun types owner permits known functions → (depth : ℕ) → CallsSafe types owner permits known (call_at functions depth)
+    {I T C E : Type 0} (known : Callables I K) (calls : Calls K E) (functions : I → Option (Function I T C))
+    → AllRun types owner permits known calls functions → (depth : ℕ) → CallsSafe types owner permits known (call_at functions depth)
 unfolding call_at
-calls_at_safe types owner permits laws known functions all zero key acts fs sizes made under w ticks active waiting many typed
-    state =
-    laws.steps.actions.told acts fs sizes (onto made under) w state
-calls_at_safe types owner permits laws known functions all (suc depth) key acts fs sizes made under w ticks active waiting many
+calls_at_safe types owner permits laws known calls functions all zero key acts fs sizes made under w ticks active waiting many typed
+    state = (
+      laws.steps.actions.told acts fs sizes (onto made under) w state,
+      record {
+        acts = acts;
+        frames = fs;
+        sizes = sizes;
+        under = onto made under;
+        state = state;
+        held = all_held permits (is_active acts) fs waiting;
+      },
+    )
+calls_at_safe types owner permits laws known calls functions all (suc depth) key acts fs sizes made under w ticks active waiting many
     typed state =
     let one = all key in
     subst (λ o. GoodHeld types owner permits
     (λ (v : Value) n. IsIn types owner acts fs sizes ((v, known.result key) ∷ under) n × (lying_in n ≡ lying_in w))
     (enters (call_at functions depth) depth o (values_of made) w ticks)) (sym one.1)
-    (enters_good types owner permits laws known (call_at functions depth)
-    (calls_at_safe types owner permits laws known functions all depth) depth one.0 key one.2 acts fs sizes made under active waiting
+    (enters_good types owner permits laws known calls (call_at functions depth) key
+    (λ call. calls_at_safe types owner permits laws known calls functions all depth (calls.to call.0)) depth one.0 one.2 acts fs sizes made under active waiting
     many typed w ticks state)

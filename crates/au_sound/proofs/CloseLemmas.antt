@@ -116,8 +116,8 @@ module _ (types : Types) (owner : ClosedType → Option (List ℕ)) {V W : Type 
   one_ended a own hold names made n state =
       subst (λ (gs : List Frame). IsIn types owner (own ++ below) (frame (λ k. freed a.token (hold k)) names ∷ gs) sizes made
       (closed_to (length a.base) n))
-      (frames_stay (is_active (own ++ below)) a.token fs
-      (all_more (is_active below) (is_active (own ++ below)) (more_active own below) fs waiting)
+      (frames_stay permits (is_active (own ++ below)) a.token fs
+      (all_more permits (is_active below) (is_active (own ++ below)) (more_active own below) fs waiting)
       (newest_off a (own ++ below) state.safe.inv.sorted))
       (laws.ended (a ∷ (own ++ below)) (frame hold names ∷ fs) sizes made n a (own ++ below) refl state)
 

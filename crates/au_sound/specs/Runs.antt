@@ -16,7 +16,7 @@ use Rattle.au_safe_ships.specs.Sound.{IsHomeOf}
 use Rattle.au_safe_ships.specs.Beginning.{ExitsWell, FinishesWell, IsExitOf, RootsComeWell, StartsWell}
 use Rattle.au_sound_blocks.specs.Blocks.{AllRun}
 use Rattle.au_sound_blocks.specs.Held.{HoldsWell, Permits}
-use Rattle.au_sound_blocks.specs.Known.{Callables}
+use Rattle.au_sound_blocks.specs.Known.{Callables, Calls}
 use Rattle.au_sound_blocks.specs.Steps.{StepsAreSafe}
 
 -- Each action of a run is safe.
@@ -71,8 +71,8 @@ HoldsWhereCut types owner permits seen = seen.ending ≡ running → HoldsWell t
 -- Where each function may be run at each key, every run from an entry is seen well, whatever the input and
 -- however many ticks there are; and names hold what they may wherever it is cut off.
 abbrev pub RunsWell : (types : Types) → (ClosedType → Option (List ℕ)) → {K W : Type 0} → Permits K W
-    → {I T C : Type 0} → Callables I K → (I → Option (Function I T C)) → Type 0
-RunsWell types owner {K} {W} permits {I} {T} {C} known functions =
-    AllRun types owner permits known functions → (key : K) → IsEntry types owner known functions key
+    → {I T C E : Type 0} → Callables I K → Calls K E → (I → Option (Function I T C)) → Type 0
+RunsWell types owner {K} {W} permits {I} {T} {C} known calls functions =
+    AllRun types owner permits known calls functions → (key : K) → IsEntry types owner known functions key
     → (input : List ℕ) (ticks : ℕ) → IsSeenWell owner (mean functions (known.of key) input ticks)
     × HoldsWhereCut types owner permits (mean functions (known.of key) input ticks)

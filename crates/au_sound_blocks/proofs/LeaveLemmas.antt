@@ -26,7 +26,7 @@ use Rattle.au_meaning.specs.Views.{View}
 use Rattle.au_meaning.specs.Worlds.{Value, World}
 use Rattle.au_sound_expressions.specs.Good.{GoodBy, IsIn, IsRunning, lying_in}
 use Rattle.au_sound_expressions.proofs.GoodLemmas.{good_then}
-use Rattle.au_sound_expressions.specs.Blocks.{IsWholeOf, MayDrop, Names}
+use Rattle.au_sound_expressions.specs.Blocks.{IsFine, IsWholeOf, MayDrop, Names}
 use Rattle.au_sound_expressions.specs.Expressions.{IsOf}
 use Rattle.au_sound_expressions.specs.Known.{Callables, with_token}
 use Rattle.au_sound_expressions.specs.Lives.{IsOver, Standing, Steps, after_whole, freed_each, spent}
@@ -35,14 +35,14 @@ use Rattle.au_sound_expressions.specs.Uses.{uses}
 use Rattle.au_sound_expressions.specs.Safe.{After, AllWait, CallsSafe, frame}
 use Rattle.au_sound_expressions.proofs.EvalLemmas.{eval_safe}
 use Rattle.au_sound_expressions.proofs.HoldLemmas.{plus_nothing}
-use Rattle.au_sound_expressions.proofs.WaitLemmas.{active_more, all_more, fresh, waits_more}
+use Rattle.au_sound_expressions.proofs.WaitLemmas.{active_more, all_held, all_more, fresh, waits_more}
 use Rattle.au_sound_blocks.specs.Flows.{Going, tokens}
 use Rattle.au_sound_blocks.specs.Steps.{StepsAreSafe}
 use Rattle.au_sound_blocks.proofs.FormLemmas.{freed_empty}
 use Rattle.au_sound_blocks.proofs.FrameLemmas.{spent_empty}
 use Rattle.au_sound_blocks.proofs.StateLemmas.{Ends, Goes, Valued, good_stored, more_active, ticks_on}
-use Rattle.au_sound_blocks.proofs.StateLemmas.{goes_with, falls_on, values_safe}
-use Rattle.au_sound_blocks.specs.Held.{GoodHeld, Permits}
+use Rattle.au_sound_blocks.proofs.StateLemmas.{goes_with, falls_on, stands, values_safe}
+use Rattle.au_sound_expressions.specs.Held.{GoodHeld, Permits}
 
 -- one action after two
 pub follows_apart : {A B C : Type 0} (out : Out A) (go : A → Action B) (more : B → Action C)
@@ -54,26 +54,29 @@ follows_apart (cut w) go more = refl
 follows_apart (no_rule w left) go more = refl
 
 -- a value that is set or put is so in the store alone
-pub good_sets : {cuts : World → Type 0} (owner : ClosedType → Option (List ℕ)) (q : Value → World → Type 0) (x : ℕ) (path : List ℕ) (v : Value)
+pub good_sets : (owner : ClosedType → Option (List ℕ)) (cuts : World → Type 0) (q : Value → World → Type 0) (x : ℕ)
+    (path : List ℕ) (v : Value)
     (w : World) (ticks : ℕ) → GoodBy owner cuts q (sets x path v w ticks)
     → GoodBy owner cuts (λ (old : Value) n. q old n × (lying_in n ≡ lying_in w)) (sets x path v w ticks)
-good_sets owner q x path v w ticks good =
-    good_stored owner q (exchanged (place_of x path w) v w.store) w ticks good
+good_sets owner cuts q x path v w ticks good =
+    good_stored owner cuts q (exchanged (place_of x path w) v w.store) w ticks good
 
-put_keeps : {cuts : World → Type 0} (owner : ClosedType → Option (List ℕ)) (q : Value → World → Type 0) (o : Option (ℕ × Place)) (v : Value)
+put_keeps : (owner : ClosedType → Option (List ℕ)) (cuts : World → Type 0) (q : Value → World → Type 0)
+    (o : Option (ℕ × Place)) (v : Value)
     (w : World) (ticks : ℕ) → GoodBy owner cuts q (follows (needing o pure w ticks) (λ one. puts one v))
     → GoodBy owner cuts (λ (old : Value) n. q old n × (lying_in n ≡ lying_in w))
     (follows (needing o pure w ticks) (λ one. puts one v))
 unfolding follows
-put_keeps owner q None v w ticks good = absurd good
-put_keeps owner q (Some one) v w ticks good = good_stored owner q (put_behind one v w.store) w ticks good
+put_keeps owner cuts q None v w ticks good = absurd good
+put_keeps owner cuts q (Some one) v w ticks good = good_stored owner cuts q (put_behind one v w.store) w ticks good
 
-pub good_puts : {cuts : World → Type 0} (owner : ClosedType → Option (List ℕ)) (q : Value → World → Type 0) (x : ℕ) (path : List ℕ) (v : Value)
+pub good_puts : (owner : ClosedType → Option (List ℕ)) (cuts : World → Type 0) (q : Value → World → Type 0) (x : ℕ)
+    (path : List ℕ) (v : Value)
     (w : World) (ticks : ℕ) → GoodBy owner cuts q (follows (refers x path w ticks) (λ one. puts one v))
     → GoodBy owner cuts (λ (old : Value) n. q old n × (lying_in n ≡ lying_in w))
     (follows (refers x path w ticks) (λ one. puts one v))
-good_puts owner q x path v w ticks good =
-    put_keeps owner q (along (reference_held x w) (λ one. Some (reference_along one path))) v w ticks good
+good_puts owner cuts q x path v w ticks good =
+    put_keeps owner cuts q (along (reference_held x w) (λ one. Some (reference_along one path))) v w ticks good
 
 module _ (types : Types) (owner : ClosedType → Option (List ℕ)) {V W : Type 0} (permits : Permits V W)
     (laws : StepsAreSafe types owner) (key : V) (loose : ℕ → Bool)
@@ -82,11 +85,14 @@ module _ (types : Types) (owner : ClosedType → Option (List ℕ)) {V W : Type 
     (invoke : I → List Value → Action Value) (calls_safe : CallsSafe types owner permits known invoke)
     (waiting : AllWait permits (is_active below) fs) where
   abbrev Gos : List Act → ℕ → Standing → Names → Made → World → Type 0
-  Gos own number h names under w = Goes types owner permits laws key loose result below base fs sizes size running own number h names under w
+  Gos own number h names under w = Goes types owner permits laws key loose result below base fs sizes size running own
+      number h names under w
 
-  abbrev Ending : List Act → (kept next : ℕ) → Names → (Standing → Type 0) → (Names → Type 0) → Made → Flow → World → Type 0
+  abbrev Ending : List Act → (kept next : ℕ) → Names → (Standing → Type 0) → (Names → Type 0) → Made → Flow → World
+      → Type 0
   Ending own kept next before A R under flow w =
-      Ends types owner permits laws key loose result below base fs sizes size running own kept next before A R under flow w
+      Ends types owner permits laws key loose result below base fs sizes size running own kept next before A R under
+      flow w
 
   -- ---- a value is dropped
 
@@ -110,22 +116,22 @@ module _ (types : Types) (owner : ClosedType → Option (List ℕ)) {V W : Type 
       ((whole see invoke scope e >>= (λ v. tick (pure falls))) w ticks)
   discard_safe number scope e own A R h names under w ticks fits says steps going =
       let q = Ending own number number names A R under in
-      good_then owner
+      good_then owner _
       (Valued types owner permits laws key loose result below base fs sizes size running own number (MayDrop types)
       (after_whole see loose scope e h) names under) q (whole see invoke scope e w ticks) (λ v. tick (pure falls))
-      (values_safe types owner permits laws key loose result below base fs sizes size running see known invoke calls_safe waiting
-      (MayDrop types) scope e own number h names under w ticks
+      (values_safe types owner permits laws key loose result below base fs sizes size running see known invoke
+      calls_safe waiting (MayDrop types) scope e own number h names under w ticks
       (λ z off. let fit = fits z off in (fit.0, fit.2, fit.1)) steps.0 going)
       (λ v n left valued.
-      ticks_on types owner permits laws key loose result below base fs sizes size running q (pure falls) own number
-      (after_whole see loose scope e h) names ((v, valued.of) ∷ under) n left valued.going
+      ticks_on types owner permits laws key loose result below base fs sizes size running waiting q (pure falls) own
+      number (after_whole see loose scope e h) names ((v, valued.of) ∷ under) n left valued.going
       (λ more.
       falls_on types owner permits laws key loose result below base fs sizes size running own number number
       (after_whole see loose scope e h) names A R under n steps.1 says
       (goes_with types owner permits laws key loose result below base fs sizes size running own number
       (after_whole see loose scope e h) names ((v, valued.of) ∷ under) under n n refl
-      (laws.dropped (own ++ below) (frame (after_whole see loose scope e h) names ∷ fs) sizes under n laws.actions.typed v
-      valued.of
+      (laws.dropped (own ++ below) (frame (after_whole see loose scope e h) names ∷ fs) sizes under n laws.actions.typed
+      v valued.of
       (droppable own (after_whole see loose scope e h) names under v valued.of n valued.is valued.state) valued.state)
       valued.going)))
 
@@ -142,28 +148,32 @@ module _ (types : Types) (owner : ClosedType → Option (List ℕ)) {V W : Type 
       let begun = laws.actions.begun (own ++ below) (frame h names ∷ fs) sizes under w going.state in
       let a : Act = record { token = begun.0; base = lying_in w } in
       let q = Ending own number number names A R under in
-      good_then owner
+      good_then owner _
       (λ (v : Value) n. After types owner permits (a ∷ (own ++ below)) names fs sizes a.token h
-      (λ k. (uses see k scope e).consumed) (λ k. unmentioned) ((v, result) ∷ under) n) q (eval see invoke scope e w ticks)
-      (λ v. tick (pure (returns v)))
-      (eval_safe types owner permits laws.actions a (own ++ below) names fs sizes size running see known invoke calls_safe
-      (all_more (is_active below) (is_active (a ∷ (own ++ below)))
+      (λ k. (uses see k scope e).consumed) (λ k. unmentioned) ((v, result) ∷ under) n) q (eval see invoke scope e w
+      ticks) (λ v. tick (pure (returns v)))
+      (eval_safe types owner permits laws.actions a (own ++ below) names fs sizes size running
+      (all_held permits (is_active below) fs waiting) see known invoke calls_safe
+      (all_more permits (is_active below) (is_active (a ∷ (own ++ below)))
       (λ z is. active_more a (own ++ below) z (more_active own below z is)) fs waiting) scope e result
       (fits begun.0 begun.1) (λ k. unmentioned) h under w ticks
-      (λ k. subst (λ n. Ready (stand (h k)) n) (sym (plus_nothing (uses see k scope e))) (steps.0 k))
-      (λ k. waits_more (is_active (own ++ below)) (is_active (a ∷ (own ++ below))) (active_more a (own ++ below)) (h k)
-      (going.waits k)) begun.2)
+      (λ k. subst (λ n. Ready (stand (h k)) n) (sym (plus_nothing (uses see k scope e))) (steps.0 k)) (
+        λ k. waits_more (is_active (own ++ below)) (is_active (a ∷ (own ++ below))) (active_more a (own ++ below)) (h k)
+            (going.waits k),
+        (stands types owner permits laws key loose result below base fs sizes size running own number h names under w
+            going).1,
+      ) begun.2)
       (λ v n left after.
       let gone : Going types owner permits key loose result below base fs sizes size (a ∷ own) size after.hold names
       ((v, result) ∷ under) n = record {
-        waits = after.waits;
+        waits = after.waits.0;
         clear = λ k from. emptied a after.hold k (after.gone k) (going.clear k (omega arith));
-        fine = λ k may. fine_on a after.hold k (after.gone k) (going.fine k may);
+        fine = λ k. fine_on a after.hold k (after.gone k) (going.fine k);
         bottom = going.bottom;
         state = after.state;
       } in
-      ticks_on types owner permits laws key loose result below base fs sizes size running q (pure (returns v)) (a ∷ own) size after.hold
-      names ((v, result) ∷ under) n left gone
+      ticks_on types owner permits laws key loose result below base fs sizes size running waiting q (pure (returns v))
+      (a ∷ own) size after.hold names ((v, result) ∷ under) n left gone
       (λ more. record {
         newest = a;
         own = own;
@@ -183,6 +193,7 @@ module _ (types : Types) (owner : ClosedType → Option (List ℕ)) {V W : Type 
 
       fine_on : (a : Act) (g : Standing) (k : ℕ)
           → freed a.token (g k) ≡ spent (uses see k scope e).consumed (freed a.token (h k))
-          → (h k ≡ empty) ⊎ MayDrop types (names k) → (g k ≡ empty) ⊎ MayDrop types (names k)
+          → (h k ≡ empty) ⊎ IsFine types loose permits key k (names k)
+          → (g k ≡ empty) ⊎ IsFine types loose permits key k (names k)
       fine_on a g k same (inl is) = inl (emptied a g k same is)
-      fine_on a g k same (inr may) = inr may
+      fine_on a g k same (inr fine) = inr fine
