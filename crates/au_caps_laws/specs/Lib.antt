@@ -6,5 +6,4 @@ pub mod Bearing
 pub mod Laws
 pub mod Births
 pub mod Reported
-pub mod Texts
 pub mod Reach

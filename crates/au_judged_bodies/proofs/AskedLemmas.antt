@@ -49,6 +49,8 @@ use Rattle.au_typing.specs.Statements.{IsReference}
 use Rattle.au_typing.specs.Trees.{NotedArms, NotedBranches, NotedStatement, NotedStatements}
 use Rattle.au_judged_bodies.specs.Besides.{AreFineIn, Besides, BesidesAll, BesidesArms, BesidesTests, IsFineIn}
 use Rattle.au_judged_bodies.specs.Besides.{IsNewRegion}
+use Rattle.au_judged_bodies.specs.Texts.{arguments_by, arguments_by_arms, arguments_by_block, arguments_by_branches}
+use Rattle.au_judged_bodies.specs.Texts.{arguments_in}
 use Rattle.au_judged_bodies.specs.WrittenTypes.{types_bound, types_in_arms, types_in_block, types_in_branches}
 use Rattle.au_judged_bodies.specs.WrittenTypes.{types_written}
 use Rattle.au_judged_bodies.proofs.CoverLemmas.{Fits, begun_fits, behind, borrow_holds, left_of, lent_holds, one_of}
@@ -68,7 +70,7 @@ use Rattle.au_program_lives.specs.Scopes as judge
 use Rattle.au_typing.specs.Scopes.{Outside}
 use Rattle.au_syntax.specs.Modules.{Constrained, Header}
 use Rattle.au_typing.specs.Bodies.{body_scope}
-use Rattle.au_judged_bodies.proofs.KeptLemmas.{keeps}
+use Rattle.au_judged_bodies.proofs.KeptLemmas.{MayHandEach, hand_left, hand_right, keeps}
 use Rattle.au_judged_bodies.proofs.RegionLemmas.{AreOpen, first_open, later, new_region, region_too}
 
 -- ---- what may be dropped
@@ -131,7 +133,7 @@ parts_sorted sorts number (v ∷ vs) ws a =
 -- ---- statements
 
 module _ (foreign : Kind → Bytes → Bool) {I : Type 0} (see : View I Note (Unit {0})) (sorts : ℕ → Sort)
-    (may_hold : Meaning → Type 0) (outside : Outside) (generics : List Bounded)
+    (may_hold may_hand : Meaning → Type 0) (outside : Outside) (generics : List Bounded)
     (references : (mode : BorrowMode) (region : Bytes) (t of : Meaning) → lent mode t ≡ Some of → may_hold t
     → may_hold (borrow_type mode region of)) where
   -- what is known of what names may hold in a scope, and of what is written there
@@ -228,24 +230,25 @@ module _ (foreign : Kind → Bytes → Bool) {I : Type 0} (see : View I Note (Un
         → AreOpen before (types_of sc)
         → AreSorted sorts number (variables_after (plain_statement (λ (b : Bytes). b) s) rest (types_of sc))
         → AreSorted sorts number (variables_inside (plain_statement (λ (b : Bytes). b) s) (types_of sc))
-        → Each see K U number scope s → Besides see (loose_by sorts) may_hold number sc scope s
-    go number scope (skip at) rest sc before held new open1 own asked each = tt
-    go number scope (declare at binding x t e) rest sc before held new open1 own asked each =
-        (keeps see scope e each, drops number sc (t ∷ []) held t (inl refl) own.0)
-    go number scope (destructure at binds e) rest sc before held new open1 own asked each =
-        (keeps see scope e each, each_drops number sc (types_bound binds) held rest binds (λ w there. there) own)
-    go number scope (assign at x fields e) rest sc before held new open1 own asked each = keeps see scope e each
-    go number scope (assign_through at x fields e) rest sc before held new open1 own asked each = keeps see scope e each
-    go number scope (conditional at tests) rest sc before held new open1 own asked each =
-        go_tests number scope tests sc before held new open1 asked each
-    go number scope (conditional_else at tests block) rest sc before held new open1 own asked each =
+        → Each see K U number scope s → MayHandEach may_hand (arguments_by s) → Besides see (loose_by sorts) may_hold may_hand number sc scope s
+    go number scope (skip at) rest sc before held new open1 own asked each hands = tt
+    go number scope (declare at binding x t e) rest sc before held new open1 own asked each hands =
+        (keeps see may_hand scope e each hands, drops number sc (t ∷ []) held t (inl refl) own.0)
+    go number scope (destructure at binds e) rest sc before held new open1 own asked each hands =
+        (keeps see may_hand scope e each hands, each_drops number sc (types_bound binds) held rest binds (λ w there. there) own)
+    go number scope (assign at x fields e) rest sc before held new open1 own asked each hands = keeps see may_hand scope e each hands
+    go number scope (assign_through at x fields e) rest sc before held new open1 own asked each hands = keeps see may_hand scope e each hands
+    go number scope (conditional at tests) rest sc before held new open1 own asked each hands =
+        go_tests number scope tests sc before held new open1 asked each hands
+    go number scope (conditional_else at tests block) rest sc before held new open1 own asked each hands =
         let ms = branch_marks (plain_branches (λ (b : Bytes). b) tests) in
         let ahead = before ++ ms in
         let vs = variables_in_branches (plain_branches (λ (b : Bytes). b) tests) (types_of sc) in
         let both = parts_sorted sorts number vs (variables_in (plain block) (types_of sc)) asked in (
           go_tests number scope tests sc before
               (left_of may_hold outside generics references sc (types_in_branches tests) (types_in_block block) held)
-              (left_new foreign before ms (enclosed (marks_in block)) new) open1 both.0 each.0,
+              (left_new foreign before ms (enclosed (marks_in block)) new) open1 both.0 each.0
+              (hand_left may_hand (arguments_by_branches tests) (arguments_by_block block) hands),
           go_all (number + names_in_tests tests) scope block sc (ahead ++ Opens ∷ [])
               (right_of may_hold outside generics references sc (types_in_branches tests) (types_in_block block) held)
               (inner_new foreign ahead (marks_in block) (right_new foreign before ms (enclosed (marks_in block)) new))
@@ -255,30 +258,36 @@ module _ (foreign : Kind → Bytes → Bool) {I : Type 0} (see : View I Note (Un
               (moved sorts (number + length vs) (number + names_in_tests tests) (variables_in (plain block)
               (types_of sc))
               (ap (λ (n : ℕ). number + n) (many_tests tests (types_of sc))) both.1)
-              each.1,
+              each.1 (hand_right may_hand (arguments_by_branches tests) (arguments_by_block block) hands),
         )
-    go number scope (case_of at e all) rest sc before held new open1 own asked each =
-        (keeps see scope e each.0, go_arms number scope (note_of e) all sc before held new open1 asked each.1)
-    go number scope (while_loop at e block) rest sc before held new open1 own asked each = (
-      keeps see scope e each.0,
-      go_all number scope block sc (before ++ Opens ∷ []) held (inner_new foreign before (marks_in block) new)
-          (later before (Opens ∷ []) (types_of sc) (λ n. tt) open1) asked each.1,
+    go number scope (case_of at e all) rest sc before held new open1 own asked each hands = (
+      keeps see may_hand scope e each.0 (hand_left may_hand (arguments_in e) (arguments_by_arms all) hands),
+      go_arms number scope (note_of e) all sc before held new open1 asked each.1
+          (hand_right may_hand (arguments_in e) (arguments_by_arms all) hands),
     )
-    go number scope (for_loop at x first last block) rest sc before held new open1 own asked each =
+    go number scope (while_loop at e block) rest sc before held new open1 own asked each hands = (
+      keeps see may_hand scope e each.0 (hand_left may_hand (arguments_in e) (arguments_by_block block) hands),
+      go_all number scope block sc (before ++ Opens ∷ []) held (inner_new foreign before (marks_in block) new)
+          (later before (Opens ∷ []) (types_of sc) (λ n. tt) open1) asked each.1
+          (hand_right may_hand (arguments_in e) (arguments_by_block block) hands),
+    )
+    go number scope (for_loop at x first last block) rest sc before held new open1 own asked each hands =
         let mark = Declares Local Values x.name x.at in
         let base = before ++ Opens ∷ [] in
-        let inside = inner_new foreign before (mark ∷ marks_in block) new in (
-          keeps see scope first each.0,
-          keeps see scope last each.1,
+        let inside = inner_new foreign before (mark ∷ marks_in block) new in
+        let ends = hand_left may_hand (arguments_in first ++ arguments_in last) (arguments_by_block block) hands in (
+          keeps see may_hand scope first each.0 (hand_left may_hand (arguments_in first) (arguments_in last) ends),
+          keeps see may_hand scope last each.1 (hand_right may_hand (arguments_in first) (arguments_in last) ends),
           λ may. go_all (number + 1) (with_counter see number x.name first scope) block
               (with_variable (fixed_variable x.name (type_of first)) sc) (base ++ mark ∷ [])
               (with_one may_hold outside generics references sc (types_in_block block)
               (fixed_variable x.name (type_of first)) may held)
               (right_new foreign base (mark ∷ []) (marks_in block) inside)
               (later base (mark ∷ []) (types_of sc) (λ n. tt) (later before (Opens ∷ []) (types_of sc) (λ n. tt) open1))
-              asked.1 each.3,
+              asked.1 each.3
+              (hand_right may_hand (arguments_in first ++ arguments_in last) (arguments_by_block block) hands),
         )
-    go number scope (borrow_in at a x r region block stop) rest sc before held new open1 own asked each =
+    go number scope (borrow_in at a x r region block stop) rest sc before held new open1 own asked each hands =
         let mark = Declares Local Values r.name r.at in
         let place = Declares Local Types region.name region.at in
         let base = before ++ Opens ∷ [] in
@@ -299,10 +308,10 @@ module _ (foreign : Kind → Bytes → Bool) {I : Type 0} (see : View I Note (Un
                 (lent_holds may_hold outside generics references sc (types_in_block block) held (mode_for a) x.name region.name of lends)
                 held)
                 (right_new foreign (base ++ mark ∷ []) (place ∷ []) (marks_in block) others)
-                (region_too (base ++ mark ∷ []) (types_of sc) region.name region.at open2) asked.1 each.1,
+                (region_too (base ++ mark ∷ []) (types_of sc) region.name region.at open2) asked.1 each.1 hands,
           ),
         )
-    go number scope (borrow_typed at r t m x block stop) rest sc before held new open1 own asked each =
+    go number scope (borrow_typed at r t m x block stop) rest sc before held new open1 own asked each hands =
         let mark = Declares Local Values r.name r.at in
         let base = before ++ Opens ∷ [] in
         let ms = region_marks t in
@@ -319,18 +328,19 @@ module _ (foreign : Kind → Bytes → Bool) {I : Type 0} (see : View I Note (Un
           go_all (number + 1) (meaning.with_reference m (meaning.variable_of scope x.name) number r.name scope) block
               (with_reference r.name region of sc) inner.before
               (with_lent may_hold outside generics references sc (types_in_block block) r.name region of may behind_it)
-              inner.marks inner.open1 inner.asked each.1,
+              inner.marks inner.open1 inner.asked each.1 hands,
         )
-    go number scope (discard at e) rest sc before held new open1 own asked each = keeps see scope e each
-    go number scope (return_of at e) rest sc before held new open1 own asked each = keeps see scope e each
+    go number scope (discard at e) rest sc before held new open1 own asked each hands = keeps see may_hand scope e each hands
+    go number scope (return_of at e) rest sc before held new open1 own asked each hands = keeps see may_hand scope e each hands
 
     pub go_all : (number : ℕ) (scope : meaning.Scope) (b : NotedStatements) (sc : Scope) (before : List Mark)
         → Held sc (types_in_block b)
         → AreNew foreign before (marks_in b) → AreOpen before (types_of sc)
         → AreSorted sorts number (variables_in (plain b) (types_of sc)) → EachIn see K U number scope b
-        → BesidesAll see (loose_by sorts) may_hold number sc scope b
-    go_all number scope no_statements sc before held new open1 asked each = tt
-    go_all number scope (statements s rest) sc before held new open1 asked each =
+        → MayHandEach may_hand (arguments_by_block b)
+        → BesidesAll see (loose_by sorts) may_hold may_hand number sc scope b
+    go_all number scope no_statements sc before held new open1 asked each hands = tt
+    go_all number scope (statements s rest) sc before held new open1 asked each hands =
         let ms = statement_marks (plain_statement (λ (b : Bytes). b) s) in
         let own = variables_after (plain_statement (λ (b : Bytes). b) s) (plain rest) (types_of sc) in
         let inside = variables_inside (plain_statement (λ (b : Bytes). b) s) (types_of sc) in
@@ -345,29 +355,34 @@ module _ (foreign : Kind → Bytes → Bool) {I : Type 0} (see : View I Note (Un
         (later before ms (types_of sc) (neutral_stays ms (neutral (plain_statement (λ (b : Bytes). b) s))) open1) in (
           go number scope s (plain rest) sc before
               (left_of may_hold outside generics references sc (types_written s) (types_in_block rest) held) (left_new foreign before ms (marks_in rest) new) open1 first.0
-              (inside_at number s (plain rest) (types_of sc) second.0) each.0,
+              (inside_at number s (plain rest) (types_of sc) second.0) each.0
+              (hand_left may_hand (arguments_by s) (arguments_by_block rest) hands),
           go_all (number + names_in s) (meant.after see number s scope) rest (after s sc) (before ++ ms)
               (behind may_hold outside generics references s sc (types_in_block rest) held)
-              (right_new foreign before ms (marks_in rest) new) beyond.1 beyond.0 each.2,
+              (right_new foreign before ms (marks_in rest) new) beyond.1 beyond.0 each.2
+              (hand_right may_hand (arguments_by s) (arguments_by_block rest) hands),
         )
 
     go_tests : (number : ℕ) (scope : meaning.Scope) (tests : NotedBranches) (sc : Scope) (before : List Mark)
         → Held sc (types_in_branches tests)
         → AreNew foreign before (branch_marks (plain_branches (λ (b : Bytes). b) tests)) → AreOpen before (types_of sc)
         → AreSorted sorts number (variables_in_branches (plain_branches (λ (b : Bytes). b) tests) (types_of sc))
-        → EachTest see K U number scope tests → BesidesTests see (loose_by sorts) may_hold number sc scope tests
-    go_tests number scope no_branches sc before held new open1 asked each = tt
-    go_tests number scope (branches e block rest) sc before held new open1 asked each =
+        → EachTest see K U number scope tests → MayHandEach may_hand (arguments_by_branches tests)
+        → BesidesTests see (loose_by sorts) may_hold may_hand number sc scope tests
+    go_tests number scope no_branches sc before held new open1 asked each hands = tt
+    go_tests number scope (branches e block rest) sc before held new open1 asked each hands =
         let ms = enclosed (marks_in block) in
         let others = branch_marks (plain_branches (λ (b : Bytes). b) rest) in
         let vs = variables_in (plain block) (types_of sc) in
         let ws = variables_in_branches (plain_branches (λ (b : Bytes). b) rest) (types_of sc) in
-        let both = parts_sorted sorts number vs ws asked in (
-          keeps see scope e each.0,
+        let both = parts_sorted sorts number vs ws asked in
+        let mine = hand_left may_hand (arguments_in e ++ arguments_by_block block) (arguments_by_branches rest) hands in (
+          keeps see may_hand scope e each.0 (hand_left may_hand (arguments_in e) (arguments_by_block block) mine),
           go_all number scope block sc (before ++ Opens ∷ [])
               (left_of may_hold outside generics references sc (types_in_block block) (types_in_branches rest) held)
               (inner_new foreign before (marks_in block) (left_new foreign before ms others new))
-              (later before (Opens ∷ []) (types_of sc) (λ n. tt) open1) both.0 each.1,
+              (later before (Opens ∷ []) (types_of sc) (λ n. tt) open1) both.0 each.1
+              (hand_right may_hand (arguments_in e) (arguments_by_block block) mine),
           go_tests (number + names_in_block block) scope rest sc (before ++ ms)
               (right_of may_hold outside generics references sc (types_in_block block) (types_in_branches rest) held)
               (right_new foreign before ms others new)
@@ -375,16 +390,17 @@ module _ (foreign : Kind → Bytes → Bool) {I : Type 0} (see : View I Note (Un
               (neutral_stays ms (neutral_enclosed (marks_in block) (neutral_all (plain block)))) open1)
               (moved sorts (number + length vs) (number + names_in_block block) ws
               (ap (λ (n : ℕ). number + n) (many block (types_of sc))) both.1)
-              each.2,
+              each.2 (hand_right may_hand (arguments_in e ++ arguments_by_block block) (arguments_by_branches rest) hands),
         )
 
     go_arms : (number : ℕ) (scope : meaning.Scope) (note : Note) (all : NotedArms) (sc : Scope) (before : List Mark)
         → Held sc (types_in_arms all)
         → AreNew foreign before (arm_marks (plain_arms (λ (b : Bytes). b) all)) → AreOpen before (types_of sc)
         → AreSorted sorts number (variables_in_arms (plain_arms (λ (b : Bytes). b) all) (types_of sc))
-        → EachArm see K U number scope note all → BesidesArms see (loose_by sorts) may_hold number sc scope note all
-    go_arms number scope note no_arms sc before held new open1 asked each = tt
-    go_arms number scope note (arms at name binds block rest) sc before held new open1 asked each =
+        → EachArm see K U number scope note all → MayHandEach may_hand (arguments_by_arms all)
+        → BesidesArms see (loose_by sorts) may_hold may_hand number sc scope note all
+    go_arms number scope note no_arms sc before held new open1 asked each hands = tt
+    go_arms number scope note (arms at name binds block rest) sc before held new open1 asked each hands =
         let here_held = left_of may_hold outside generics references sc (types_bound binds ++ types_in_block block)
         (types_in_arms rest) held in
         let mine = marks_of binds in
@@ -419,14 +435,14 @@ module _ (foreign : Kind → Bytes → Bool) {I : Type 0} (see : View I Note (Un
               (with_each may_hold outside generics references binds sc (types_bound binds ++ types_in_block block)
               (among-append_left (types_bound binds) (types_in_block block)) here_held))
               (right_new foreign base mine (marks_in block) inside) within.1
-              within.0 (each.0 tag).1,
+              within.0 (each.0 tag).1 (hand_left may_hand (arguments_by_block block) (arguments_by_arms rest) hands),
           go_arms (number + (length binds + names_in_block block)) scope note rest sc (before ++ enclosed ms)
               (right_of may_hold outside generics references sc (types_bound binds ++ types_in_block block) (types_in_arms rest) held)
               (right_new foreign before (enclosed ms) left new)
               (later before (enclosed ms) (types_of sc) (neutral_stays (enclosed ms) neutral_ms) open1)
               (moved sorts ((number + length own) + length vs) (number + (length binds + names_in_block block)) ws there
               second.1)
-              each.1,
+              each.1 (hand_right may_hand (arguments_by_block block) (arguments_by_arms rest) hands),
         )
 
 -- ---- the scope of a body
@@ -463,9 +479,9 @@ params_neutral : (parameters : List (Labelled Bytes)) (n : ℕ) → Stays (map (
 params_neutral [] n = tt
 params_neutral (p ∷ rest) n = params_neutral rest n
 
-pub bodies_asked : {I : Type 0} (f : Function I Note (Unit {0})) (may_hold : Meaning → Type 0)
-    → BodiesAreAsked f may_hold
-bodies_asked f may_hold outside generics header is declared covers =
+pub bodies_asked : {I : Type 0} (f : Function I Note (Unit {0})) (may_hold may_hand : Meaning → Type 0)
+    → BodiesAreAsked f may_hold may_hand
+bodies_asked f may_hold may_hand outside generics header is declared covers =
     let outer = outer_scope outside (generics_in outside generics) in
     let sorts = λ (k : ℕ). sorts_in f outside generics header k in
     let vs = parameters_over (plain f.body) header.parameters (types_of outer) in
@@ -483,16 +499,17 @@ bodies_asked f may_hold outside generics header is declared covers =
     is.body.scope (types_in_block f.body)
     (λ p there. covers.given p (contains header.parameters p there))
     (λ w there. covers.written w (contains (types_in_block f.body) w there)) is.body.formed in
-    let begins = alike is.foreign f.view sorts may_hold outside (generics_in outside generics) covers.references number (plain f.body) is.body.scope (types_of outer) (is.before ++ given)
+    let begins = alike is.foreign f.view sorts may_hold may_hand outside (generics_in outside generics) covers.references number (plain f.body) is.body.scope (types_of outer) (is.before ++ given)
     (body_types (with_parameters header.parameters outer) header.result outer is.body.scope
     (λ mid formed. parameters_types header.parameters outer mid formed) is.body.formed)
     (moved sorts (f.first + length vs) number ws (ap (λ (n : ℕ). f.first + n) count) both.1)
     (later is.before given (types_of outer) (params_neutral header.parameters)
     (first_open is.before outside generics declared)) in
-    go_all is.foreign f.view sorts may_hold outside (generics_in outside generics) covers.references number (scope_of f)
+    go_all is.foreign f.view sorts may_hold may_hand outside (generics_in outside generics) covers.references number (scope_of f)
     f.body is.body.scope (is.before ++ given) held
     (right_new is.foreign is.before given body is.new) begins.1 begins.0
     (bodies_ahead f outside generics header is).2
+    (λ e there. covers.handed e (contains (arguments_by_block f.body) e there))
 
 -- ---- parameters
 

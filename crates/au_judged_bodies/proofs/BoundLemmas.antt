@@ -140,12 +140,12 @@ module _ (sc : Scope) (fields : List Typed) where
       (found_apart fields apart i one e)
 
 module _ (types : Types) (owner : ClosedType → Option (List ℕ)) {I K : Type 0} (see : View I Note (Unit {0}))
-    (known : Callables I K) (given : Given) (Stands : Bindings → Type 0) (loose : ℕ → Bool) (result : Meaning)
+    (known : Callables I K) (may_hand : Meaning → Type 0) (given : Given) (Stands : Bindings → Type 0) (loose : ℕ → Bool) (result : Meaning)
     {V W : Type 0} (permits : Permits V W) (key : V) (counts : (kind : IntKind) → IsPermitted permits key (integer kind))
     (active : ℕ → Bool) where
   abbrev Place : ℕ → Scope → meaning.Scope → Bindings → (ℕ → Meaning) → Type 0
   Place number sc scope s names =
-      PlaceFits types owner see known given Stands result active number sc scope s names
+      PlaceFits types owner see known may_hand given Stands result active number sc scope s names
 
   -- ---- what may be dropped
 
@@ -225,16 +225,16 @@ module _ (types : Types) (owner : ClosedType → Option (List ℕ)) {I K : Type 
       → Place (number + length binds) (with_bound binds cur) (meaning.with_bound opt number binds scope) s
       (with_types number (bound_kinds sc fields s binds good) names)
   place_bound sc fields opt is [] good number cur scope s names alike p =
-      place_later types owner see known given Stands result active number (number + 0) cur scope s names (omega arith) p
+      place_later types owner see known may_hand given Stands result active number (number + 0) cur scope s names (omega arith) p
   place_bound sc fields opt is (b ∷ rest) good number cur scope s names alike p =
       subst (λ (o : Noting Meaning). Goal o (meaning.bound_name b.name) (number + 1)) (sym (alike b.of ∙ its.formed))
       (subst (λ n. Goal (Ok its.of) n (number + 1)) (given_is b.name)
       (subst (λ n. Goal (Ok its.of) (given_name b.name) n) one_more
-      (place_later types owner see known given Stands result active (suc number + length rest)
+      (place_later types owner see known may_hand given Stands result active (suc number + length rest)
       (number + suc (length rest)) _ _ s _ (omega arith)
       (place_bound sc fields opt is rest good.1 (suc number) _ _ s (put number (running s 0 its.of) names)
       alike
-      (place_with types owner see known given Stands result active number cur scope s names p (suc number)
+      (place_with types owner see known may_hand given Stands result active number cur scope s names p (suc number)
       (record { name = given_name b.name; of = its.of; assignable = false }) seen (running s 0 its.of) (omega arith)
       whole.0 whole.1 (seen_closed fields opt is b.name.name.name its.of
       (its.has ∙ ap (λ u. Some u) (bound_is sc fields b its)))

@@ -169,25 +169,25 @@ unfolding universe_of
 integer_free heads params kind = refl
 
 module _ (types : Types) (owner : ClosedType → Option (List ℕ)) {I K : Type 0} (see : View I Note (Unit {0}))
-    (known : Callables I K) (given : Given) (Stands : Bindings → Type 0) (loose : ℕ → Bool) (result : Meaning)
+    (known : Callables I K) (may_hand : Meaning → Type 0) (given : Given) (Stands : Bindings → Type 0) (loose : ℕ → Bool) (result : Meaning)
     {V W : Type 0} (permits : Permits V W) (key : V) (counts : (kind : IntKind) → IsPermitted permits key (integer kind)) where
   abbrev pub Place : (ℕ → Bool) → ℕ → Scope → meaning.Scope → Bindings → (ℕ → Meaning) → Type 0
   Place active number sc scope s names =
-      PlaceFits types owner see known given Stands result active number sc scope s names
+      PlaceFits types owner see known may_hand given Stands result active number sc scope s names
 
   abbrev pub AllRun : NotedStatements → Type 0
   AllRun block =
       (active : ℕ → Bool) (number : ℕ) (sc : Scope) (scope : meaning.Scope) (s : Bindings) (names : ℕ → Meaning)
-      → Place active number sc scope s names → GoodBlock block sc → BesidesAll see loose (MayHold permits key Stands) number sc scope block
+      → Place active number sc scope s names → GoodBlock block sc → BesidesAll see loose (MayHold permits key Stands) may_hand number sc scope block
       → RunsAll types owner see known result loose permits key active number scope block names
 
   module _ (active : ℕ → Bool) (number : ℕ) (sc : Scope) (scope : meaning.Scope) (s : Bindings) (names : ℕ → Meaning)
-      (p : PlaceFits types owner see known given Stands result active number sc scope s names) where
+      (p : PlaceFits types owner see known may_hand given Stands result active number sc scope s names) where
     abbrev pub Whole : NotedExpression → Meaning → Type 0
     Whole e t = IsWholeOf types owner see known result loose permits key active names scope e t
 
     pub later_on : (later : ℕ) → number ≤ later → Place active later sc scope s names
-    later_on later less = place_later types owner see known given Stands result active number later sc scope s names less p
+    later_on later less = place_later types owner see known may_hand given Stands result active number later sc scope s names less p
 
     pub wanted : (mode : Mode) (t : Meaning) → mode ≡ Some t → IsKnownIn sc t → ModeIsKnownIn sc mode
     wanted mode t is whole = subst (ModeIsKnownIn sc) (sym is) whole
@@ -197,15 +197,15 @@ module _ (types : Types) (owner : ClosedType → Option (List ℕ)) {I K : Type 
 
     -- an expression that is good where a type without `~` is wanted
     pub wants_whole : (e : NotedExpression) (t : Meaning) → Wants sc e (Some t) → IsKnownIn sc t → is_lasting t ≡ true
-        → Keeps see scope e → Whole e (running s 0 t)
+        → Keeps see may_hand scope e → Whole e (running s 0 t)
     wants_whole e t good whole lasts keeps =
-        whole_of types owner see known given Stands result active number sc scope s names p loose permits key e t good.0
+        whole_of types owner see known may_hand given Stands result active number sc scope s names p loose permits key e t good.0
         (wanted (mode_of e) t good.1 whole) keeps (had sc e t good.0 good.1) lasts
 
-    pub of_each : (e : NotedExpression) → AllGood sc e → ModeIsKnownIn sc (mode_of e) → Keeps see scope e → (z : ℕ)
+    pub of_each : (e : NotedExpression) → AllGood sc e → ModeIsKnownIn sc (mode_of e) → Keeps see may_hand scope e → (z : ℕ)
         → IsOf types owner see known names z (with_token z active) scope e (running s z (type_of e))
     of_each e good mode keeps z =
-        whole_at types owner see known given Stands result active number sc scope s names p e good mode keeps z
+        whole_at types owner see known may_hand given Stands result active number sc scope s names p e good mode keeps z
 
     pub note_is : (e : NotedExpression) → see.type_of (noted e) ≡ Some (closed_under given (type_of e))
     note_is e = ap see.type_of (noted_alike e) ∙ p.round.noted (note_of e)
@@ -238,7 +238,7 @@ module _ (types : Types) (owner : ClosedType → Option (List ℕ)) {I K : Type 
         × LeadsOn types (running s 0 t) numbers (running s 0 part)
     part_at path t part whole is =
         part_leads types see names (with_token 0 active) sc scope s given 0
-        (frame_at types owner see known given Stands result active number sc scope s names p 0) path t part whole is
+        (frame_at types owner see known may_hand given Stands result active number sc scope s names p 0) path t part whole is
 
     pub free_part : (path : List (Placed Bytes)) (t part : Meaning) → IsKnownIn sc t → IsPart sc t path part
         → is_free_in sc part ≡ true → types.is_free (running s 0 part) ≡ true
@@ -326,9 +326,9 @@ module _ (types : Types) (owner : ClosedType → Option (List ℕ)) {I K : Type 
         (first, wanted (mode_of b) (type_of a) is.1 (type_known sc p.knows a ga first))
 
     pub bound_whole : (e : NotedExpression) (kind : IntKind) → AllGood sc e → ModeIsKnownIn sc (mode_of e)
-        → Keeps see scope e → type_of e ≡ integer kind → Whole e (integer kind)
+        → Keeps see may_hand scope e → type_of e ≡ integer kind → Whole e (integer kind)
     bound_whole e kind good mode keeps is =
-        whole_of types owner see known given Stands result active number sc scope s names p loose permits key e (integer kind) good mode
+        whole_of types owner see known may_hand given Stands result active number sc scope s names p loose permits key e (integer kind) good mode
         keeps is refl
 
     pub counter_fine : (kind : IntKind) → IsFine types loose permits key number (integer kind)
@@ -455,7 +455,7 @@ module _ (types : Types) (owner : ClosedType → Option (List ℕ)) {I K : Type 
     pub lent_runs : (m : BorrowMode) (x r region : Bytes) (of : Meaning) (block : NotedStatements) → IsLent sc m x of
         → IsNewRegion sc region → GoodBlock block (with_reference r region (borrow_type m region of) sc)
         → MayHold permits key Stands (borrow_type m region of)
-        → BesidesAll see loose (MayHold permits key Stands) (number + 1) (with_reference r region (borrow_type m region of) sc)
+        → BesidesAll see loose (MayHold permits key Stands) may_hand (number + 1) (with_reference r region (borrow_type m region of) sc)
         (meaning.with_reference m (meaning.variable_of scope x) number r scope) block → AllRun block
         → Lends types owner see known result loose permits key active number m (meaning.variable_of scope x) names
         (λ more of. RunsAll types owner see known result loose permits key more (number + 1)
@@ -468,9 +468,9 @@ module _ (types : Types) (owner : ClosedType → Option (List ℕ)) {I K : Type 
       block_runs (with_token z active) (number + 1) (with_reference r region bt sc)
           (meaning.with_reference m (meaning.variable_of scope x) number r scope) more
           (put number (running more 0 bt) names)
-          (place_with types owner see known given Stands result (with_token z active) number
+          (place_with types owner see known may_hand given Stands result (with_token z active) number
           (record sc { regions = region ∷ sc.regions }) scope more names
-          (place_open types owner see known given Stands result active number sc scope s names p z region new)
+          (place_open types owner see known may_hand given Stands result active number sc scope s names p z region new)
           (number + 1) (fixed_variable r bt)
           (meaning.borrowed m (meaning.type_in (meaning.variable_of scope x))) (running more 0 bt) (omega arith)
           (borrow_known m region of lent_so.whole) (borrow_last m region of lent_so.last)

@@ -26,14 +26,16 @@ AreInBlock before (p ∷ rest) = IsInBlock before Types p.parameter.name.name ×
 
 -- Where the type parameters of a good function are declared before its text, nothing is consumed in its body
 -- where an expression may leave out to look, the region of each borrow statement is new, a name may be
--- dropped only where its type allows it, and names hold what they may where this covers the body.
-abbrev pub BodiesAreAsked : {I : Type 0} → Function I Note (Unit {0}) → (Meaning → Type 0) → Type 0
-BodiesAreAsked f may_hold =
+-- dropped only where its type allows it, names hold what they may, and arguments are of types that may be
+-- handed on, where this covers the body.
+abbrev pub BodiesAreAsked : {I : Type 0} → Function I Note (Unit {0}) → (Meaning → Type 0)
+    → (Meaning → Type 0) → Type 0
+BodiesAreAsked f may_hold may_hand =
     (outside : Outside) (generics : List (Constrained Bytes)) (header : Header Bytes)
     (is : IsGoodFunction f outside generics header)
     → AreInBlock is.before generics
-    → Covers may_hold outside (generics_in outside generics) header.parameters f.body
-    → BesidesAll f.view (loose_by (sorts_in f outside generics header)) may_hold
+    → Covers may_hold may_hand outside (generics_in outside generics) header.parameters f.body
+    → BesidesAll f.view (loose_by (sorts_in f outside generics header)) may_hold may_hand
     (f.first + length f.parameters) is.body.scope (scope_of f) f.body
 
 -- so it is of parameters, by what is written for them, as the names from one on

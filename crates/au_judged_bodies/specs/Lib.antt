@@ -33,6 +33,7 @@ pub mod OnceFieldsApart
 pub mod Views
 pub mod Frames
 pub mod TypedRunsLaws
+pub mod Texts
 pub mod WrittenTypes
 pub mod Covering
 pub mod Besides

@@ -1,5 +1,5 @@
 -- What a good call calls, as the meaning sees it where the call runs.
-use Rattle.std.specs.Prelude.{◌≡◌, ℕ, Bool, List, map, Option, Some}
+use Rattle.std.specs.Prelude.{◌≡◌, ℕ, Bool, List, [], ◌∷◌, map, Option, Some}
 use Rattle.au_syntax.specs.Plain.{Bytes}
 use Rattle.au_types.specs.Types.{Meaning}
 use Rattle.au_matching.specs.Bindings.{Bindings}
@@ -17,7 +17,7 @@ use Rattle.au_known_types.specs.Known.{ModeIsKnownIn, ScopeIsKnown}
 use Rattle.au_known_types.specs.Laws.{CallIsKnown}
 use Rattle.au_safe_steps.specs.Orders.{AreApart}
 use Rattle.au_running_lives.specs.Expressions.{Performs}
-use Rattle.au_running_lives.specs.Known.{Callables}
+use Rattle.au_running_lives.specs.Known.{Callables, Calls, callees}
 use Rattle.au_judged_bodies.specs.TypedRunsLaws.{CallsRun}
 use Rattle.au_judged_bodies.specs.Rounds.{names_of}
 
@@ -25,6 +25,22 @@ use Rattle.au_judged_bodies.specs.Rounds.{names_of}
 -- this token: under what a call notes.
 abbrev pub kinds_taken : Bindings → ℕ → Bindings → List Typed → List Meaning
 kinds_taken s z noted parameters = map (λ (one : Typed). running s z (substituted noted one.of)) parameters
+
+module _ (may_hand : Meaning → Type 0) (Stands : Bindings → Type 0) where
+  -- a running type of what may be handed on, where good bindings stand for type parameters
+  abbrev pub IsHandedAs : Meaning → Type 0
+  IsHandedAs kind =
+      (s : Bindings) × (z : ℕ) × (t : Meaning) × Stands s × may_hand t × (running s z t ≡ kind)
+
+  -- so are several
+  abbrev pub AreHandedAs : List Meaning → Type 0
+  AreHandedAs [] = Unit {0}
+  AreHandedAs (kind ∷ kinds) = IsHandedAs kind × AreHandedAs kinds
+
+  -- From this way a call leads to each way whose parameters are of running types of what may be handed on.
+  abbrev pub Allows : {I K E : Type 0} → Callables I K → Calls K E → K → Type 0
+  Allows {K = K} {E = E} known calls key =
+      (to : K) → AreHandedAs (known.parameters to) → (one : E) × (calls.from one ≡ key) × (calls.to one ≡ to)
 
 module _ (types : Types) (owner : ClosedType → Option (List ℕ)) {I K : Type 0} (see : View I Note (Unit {0}))
     (known : Callables I K) (active : ℕ → Bool) (s : Bindings) (z : ℕ) where
@@ -46,8 +62,9 @@ module _ (types : Types) (owner : ClosedType → Option (List ℕ)) {I K : Type 
       → CallIsKnown sc note name takes args good
       → CallIsSeen note name good.called good.ends
 
-  -- Good calls that are seen run where their arguments do.
-  abbrev pub SeenCallsRun : (ℕ → Meaning) → Scope → meaning.Scope → Given → Type 0
-  SeenCallsRun names sc scope given =
-      ScopeIsKnown sc
-      → CallsAreSeen sc → CallsRun types owner see known names active sc scope s given z
+  -- Good calls that are seen run where their arguments do, and lead to ways to which calls from this one may.
+  abbrev pub SeenCallsRun : (ℕ → Meaning) → Scope → meaning.Scope → Given → {E : Type 0} → Calls K E → K
+      → (Meaning → Type 0) → (Bindings → Type 0) → Type 0
+  SeenCallsRun names sc scope given calls key may_hand Stands =
+      ScopeIsKnown sc → CallsAreSeen sc → Stands s → Allows may_hand Stands known calls key
+      → CallsRun types owner see (callees known calls key) may_hand names active sc scope s given z
