@@ -8,3 +8,4 @@ pub mod Births
 pub mod Reported
 pub mod Texts
 pub mod Reach
+pub mod Held
