@@ -17,3 +17,4 @@ pub mod ReportLemmas
 pub mod AcceptedLemmas
 pub mod TextLemmas
 pub mod ReachLemmas
+pub mod HeldLemmas

@@ -7,3 +7,4 @@ pub mod Laws
 pub mod Births
 pub mod Reported
 pub mod Reach
+pub mod Held
