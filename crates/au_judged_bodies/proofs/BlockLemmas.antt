@@ -358,7 +358,7 @@ module _ (types : Types) (owner : ClosedType → Option (List ℕ)) {I K : Type 
               (type_known sc p.knows first good.0.good_first modes.0)
               (subst (λ u. is_lasting u ≡ true) (sym kind.1) refl)
               (note_is types owner see known may_hand given Stands loose result permits key counts active number sc scope s names p first) (λ z. ap (running s z) (sym kind.1))) good.1
-              (besides.2 (subst (MayHold permits key Stands) may_hand (sym kind.1) (λ more stands. counts kind.0))),
+              (besides.2 (subst (MayHold permits key Stands) (sym kind.1) (λ more stands. counts kind.0))),
           next names (later_on types owner see known may_hand given Stands loose result permits key counts active number sc scope s names p (number + (1 + names_in_block block)) (omega arith)),
         )
     statement_runs (borrow_in at access.Read x r region block stop) active number sc scope s names p good besides rest
@@ -377,7 +377,7 @@ module _ (types : Types) (owner : ClosedType → Option (List ℕ)) {I K : Type 
         let more = besides good.0 good.1 its in
         borrowed_runs m x.name r.name good.0 its.lends block active number sc scope s names p its.is_lent more.0
         (subst (λ u. GoodBlock block (with_reference r.name good.0 u sc)) (sym same) good.3)
-        (subst (MayHold permits key Stands) may_hand (sym same) more.1)
+        (subst (MayHold permits key Stands) (sym same) more.1)
         (subst (λ u. BesidesAll see loose (MayHold permits key Stands) may_hand (number + 1) (with_reference r.name good.0 u sc)
         (meaning.with_reference m (meaning.variable_of scope x.name) number r.name scope) block) (sym same) more.2)
         (all_run block) (Rest (borrow_typed at r t m x block stop) active number scope rest) next

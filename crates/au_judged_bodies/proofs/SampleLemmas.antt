@@ -12,6 +12,7 @@ use Rattle.au_memory.specs.Forests.{Hold, empty, shut}
 use Rattle.au_lending.specs.Ending.{freed}
 use Rattle.au_running_lives.specs.Lives.{stand}
 use Rattle.au_running_lives.specs.Held.{Permits}
+use Rattle.au_running_lives.specs.Known.{Calls}
 use Rattle.au_judged_bodies.specs.Samples.{SampleRuns, function}
 
 -- nothing is still to come
@@ -51,8 +52,9 @@ at_one z k same =
     subst (λ (j : ℕ). (if 1 == j then forest.ready else (if 0 == j then shut z else
     (if 0 == j then forest.ready else empty))) ≡ forest.ready) same refl
 
-pub sample_runs : {W : Type 0} (permits : Permits (Unit {0}) W) → SampleRuns permits
-sample_runs permits at binding t owner any key = (
+pub sample_runs : {W E : Type 0} (permits : Permits (Unit {0}) W) (calls : Calls (Unit {0}) E)
+    → SampleRuns permits calls
+sample_runs permits calls at binding t owner any key = (
   function at binding t,
   refl,
   record {

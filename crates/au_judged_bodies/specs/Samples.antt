@@ -16,7 +16,7 @@ use Rattle.au_memory.specs.Loans.{Types}
 use Rattle.au_meaning.specs.Views.{Function, View}
 use Rattle.au_running_lives.specs.Blocks.{AllRun}
 use Rattle.au_running_lives.specs.Held.{IsPermitted, Permits}
-use Rattle.au_running_lives.specs.Known.{Callables}
+use Rattle.au_running_lives.specs.Known.{Callables, Calls}
 
 -- types of which all are Free
 abbrev pub free_types : Types
@@ -61,9 +61,9 @@ module _ (at : Pos) (binding : Binding) (t : WrittenType) where
         (statements (return_of at yes) no_statements));
   }
 
--- It may be run, where names may hold anything.
-abbrev pub SampleRuns : {W : Type 0} → Permits (Unit {0}) W → Type 0
-SampleRuns permits =
+-- It may be run, where names may hold anything, whichever calls there are.
+abbrev pub SampleRuns : {W E : Type 0} → Permits (Unit {0}) W → Calls (Unit {0}) E → Type 0
+SampleRuns permits calls =
     (at : Pos) (binding : Binding) (t : WrittenType) (owner : ClosedType → Option (List ℕ))
     → ((of : Meaning) → IsPermitted permits tt of)
-    → AllRun free_types owner permits known (λ one. Some (function at binding t))
+    → AllRun free_types owner permits known calls (λ one. Some (function at binding t))

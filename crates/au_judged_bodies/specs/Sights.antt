@@ -1,6 +1,9 @@
 -- What a good call calls, as the meaning sees it where the call runs.
 use Rattle.std.specs.Prelude.{◌≡◌, ℕ, Bool, List, [], ◌∷◌, map, Option, Some}
 use Rattle.au_syntax.specs.Plain.{Bytes}
+use Rattle.au_types.specs.declared.headings.Head.{Head}
+use Rattle.au_types.specs.declared.parameters.Parameter.{Parameter}
+use Rattle.au_types.specs.declared.types.DeclAt.{DeclAt}
 use Rattle.au_types.specs.Types.{Meaning}
 use Rattle.au_matching.specs.Bindings.{Bindings}
 use Rattle.au_matching.specs.Substituted.{substituted}
@@ -9,11 +12,12 @@ use Rattle.au_type_texts.specs.Types.{ClosedType}
 use Rattle.au_running_types.specs.Running.{running}
 use Rattle.au_memory.specs.Loans.{Types}
 use Rattle.au_typing.specs.Calls.{GoodCall, Shown}
+use Rattle.au_typing.specs.Lookups.{parameters_in}
 use Rattle.au_typing.specs.Notes.{Note}
 use Rattle.au_typing.specs.Scopes.{Callable, Scope, Typed}
 use Rattle.au_meaning.specs.Names as meaning
 use Rattle.au_meaning.specs.Views.{Callee, View}
-use Rattle.au_known_types.specs.Known.{ModeIsKnownIn, ScopeIsKnown}
+use Rattle.au_known_types.specs.Known.{IsKnown, ModeIsKnownIn, ScopeIsKnown}
 use Rattle.au_known_types.specs.Laws.{CallIsKnown}
 use Rattle.au_safe_steps.specs.Orders.{AreApart}
 use Rattle.au_running_lives.specs.Expressions.{Performs}
@@ -26,11 +30,14 @@ use Rattle.au_judged_bodies.specs.Rounds.{names_of}
 abbrev pub kinds_taken : Bindings → ℕ → Bindings → List Typed → List Meaning
 kinds_taken s z noted parameters = map (λ (one : Typed). running s z (substituted noted one.of)) parameters
 
-module _ (may_hand : Meaning → Type 0) (Stands : Bindings → Type 0) where
-  -- a running type of what may be handed on, where good bindings stand for type parameters
+module _ (heads : List (DeclAt × Head)) (params : List Parameter) (may_hand : Meaning → Type 0)
+    (Stands : Bindings → Type 0) where
+  -- a running type of what may be handed on: of a type that is known where regions are open, where good
+  -- bindings stand for type parameters
   abbrev pub IsHandedAs : Meaning → Type 0
   IsHandedAs kind =
-      (s : Bindings) × (z : ℕ) × (t : Meaning) × Stands s × may_hand t × (running s z t ≡ kind)
+      (s : Bindings) × (z : ℕ) × (regions : List Bytes) × (t : Meaning) × Stands s
+      × IsKnown heads params regions t × may_hand t × (running s z t ≡ kind)
 
   -- so are several
   abbrev pub AreHandedAs : List Meaning → Type 0
@@ -66,5 +73,6 @@ module _ (types : Types) (owner : ClosedType → Option (List ℕ)) {I K : Type 
   abbrev pub SeenCallsRun : (ℕ → Meaning) → Scope → meaning.Scope → Given → {E : Type 0} → Calls K E → K
       → (Meaning → Type 0) → (Bindings → Type 0) → Type 0
   SeenCallsRun names sc scope given calls key may_hand Stands =
-      ScopeIsKnown sc → CallsAreSeen sc → Stands s → Allows may_hand Stands known calls key
+      ScopeIsKnown sc → CallsAreSeen sc → Stands s
+      → Allows sc.outside.heads (parameters_in sc) may_hand Stands known calls key
       → CallsRun types owner see (callees known calls key) may_hand names active sc scope s given z

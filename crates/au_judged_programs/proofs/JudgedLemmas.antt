@@ -36,9 +36,9 @@ use Rattle.au_judged_bodies.specs.ClosedTrees.Parts.{field_under}
 use Rattle.au_meaning.specs.Meanings.{scope_of}
 use Rattle.au_meaning.specs.Views.{Function}
 use Rattle.au_judged_bodies.specs.Blocks.{AreFine, MayDrop, MayRun, RunsAll, with_types}
-use Rattle.au_judged_bodies.specs.Held.{Permits}
+use Rattle.au_judged_bodies.specs.Held.{IsPermitted, Permits}
 use Rattle.au_judged_bodies.specs.Covering.{Covers, MayHold}
-use Rattle.au_judged_bodies.specs.Known.{AreActive, InScope}
+use Rattle.au_judged_bodies.specs.Known.{AreActive, Callables, Calls, InScope, callees}
 use Rattle.au_judged_bodies.specs.KnownTypes.Known.{IsKnownIn}
 use Rattle.au_judged_bodies.specs.StandingTypesStanding.{StandsFor}
 use Rattle.au_judged_bodies.proofs.KnownLemmas.{writes_parts}
@@ -171,10 +171,15 @@ module _ (program : List ModuleParts) (noted : List NotedParts) (owner : ClosedT
 
   -- ---- what its names may hold
 
-  module _ {W : Type 0} (permits : Permits (Key program noted) W)
+  module _ {W E H : Type 0} (permits : Permits (Key program noted) W) (allowed : Calls (Key program noted) E)
+      (handed : Permits (Key program noted) H)
       (covers : Covers
-      (MayHold permits key (AreGoodHere program noted key.body.place generics given)) outside generics labels
-      key.body.block) where
+      (MayHold permits key (AreGoodHere program noted key.body.place generics given)) (IsPermitted handed key) outside
+      generics labels key.body.block) where
+    -- what may be called from here
+    abbrev known : Callables Instance ((one : E) × (allowed.from one ≡ key))
+    known = callees (ways program noted) allowed key
+
     abbrev may_hold : Meaning → Type 0
     may_hold = MayHold permits key (AreGoodHere program noted key.body.place generics given)
 
@@ -199,26 +204,26 @@ module _ (program : List ModuleParts) (noted : List NotedParts) (owner : ClosedT
 
     -- ---- the whole judgement
 
-    besides : BesidesAll (view_of program noted key.body given) loose may_hold (function.first + length function.parameters)
+    besides : BesidesAll (view_of program noted key.body given) loose may_hold (IsPermitted handed key) (function.first + length function.parameters)
         good.0.body.scope (scope_of function) key.body.block
     besides =
-        subst (λ (ps : List Parameter). BesidesAll (view_under program noted key.body.place ps given) loose may_hold
+        subst (λ (ps : List Parameter). BesidesAll (view_under program noted key.body.place ps given) loose may_hold (IsPermitted handed key)
         (function.first + length function.parameters) good.0.body.scope (scope_of function) key.body.block) (sym alike)
-        (bodies_asked function may_hold outside key.body.generics key.body.header good.0 good.1 covers)
+        (bodies_asked function may_hold (IsPermitted handed key) outside key.body.generics key.body.header good.0 good.1 covers)
 
-    module _ (calls : CallsRunHere program noted key.body.place generics given owner (ways program noted)) where
+    module _ (calls : CallsRunHere program noted key.body.place generics given owner known (IsPermitted handed key)) where
       runs_at : (active : ℕ → Bool) → AreActive active key.tokens
-          → BodyRuns program noted key.body given owner (ways program noted) permits key loose active (first key.one) key.s
+          → BodyRuns program noted key.body given owner known permits key loose active (first key.one) key.s
           (λ k. unit)
       runs_at active are =
-          body_runs program noted key.body given owner (ways program noted) permits key checked good.0.body
+          body_runs program noted key.body given owner known (IsPermitted handed key) permits key checked good.0.body
           (constants_of_programs_stand program noted checked key.body.place generics given) calls
           (λ kind. covers.integers kind key.s (stands, key.holds)) loose active
           (first key.one) key.s (λ k. unit) (stands, key.holds) (opened active are) (within active are) besides
 
       abbrev Run : (ℕ → Bool) → List Parameter → List Meaning → Meaning → Type 0
       Run active ps kinds result =
-          RunsAll (types_of program) owner (view_under program noted key.body.place ps given) (ways program noted) result
+          RunsAll (types_of program) owner (view_under program noted key.body.place ps given) known result
           loose permits key active (function.first + length function.parameters) (scope_of function) key.body.block
           (with_types function.first kinds (λ k. unit))
 
@@ -233,7 +238,7 @@ module _ (program : List ModuleParts) (noted : List NotedParts) (owner : ClosedT
           (subst (λ of. Run active (parameters generics) (kinds_given key.s its.ofs) of)
           (runs_so key.body.header.result its.result its.gives) its.runs))
 
-      may_run : MayRun (types_of program) owner permits (ways program noted) function key
+      may_run : MayRun (types_of program) owner permits (ways program noted) allowed function key
       may_run =
           let its = runs_at (λ k. true) (all_active key.tokens) in record {
             many = length-map (map (field_under (types_at program key.body.place Body) (heads_of program)
@@ -251,9 +256,10 @@ module _ (program : List ModuleParts) (noted : List NotedParts) (owner : ClosedT
           }
 
 pub programs_judged : (program : List ModuleParts) (noted : List NotedParts) (owner : ClosedType → Option (List ℕ))
-    {W : Type 0} (permits : Permits (Key program noted) W) → CheckedProgramsAreJudged program noted owner permits
-programs_judged program noted owner permits checked calls covered first key = (
+    {W E H : Type 0} (permits : Permits (Key program noted) W) (calls : Calls (Key program noted) E)
+    (handed : Permits (Key program noted) H) → CheckedProgramsAreJudged program noted handed calls owner permits
+programs_judged program noted owner permits calls handed checked run covered first key = (
   function program noted owner checked first key,
   there program noted owner checked first key,
-  may_run program noted owner checked first key permits (covered key) (calls key),
+  may_run program noted owner checked first key permits calls handed (covered key) (run key),
 )

@@ -17,9 +17,10 @@ use Rattle.au_closing_laws.specs.Accepted.{AreAcceptedAs}
 use Rattle.au_closing_laws.specs.Programs.{program_modules}
 use Rattle.au_closing_laws.specs.Trees.{ReadFile}
 use Rattle.au_judged_programs.specs.CheckedChecked.{IsChecked}
-use Rattle.au_judged_programs.specs.Judged.{AreCovered, CallsRunInBodies}
+use Rattle.au_judged_programs.specs.Judged.{AreCovered, CallsAreAllowed, CallsRunInBodies, anything}
 use Rattle.au_judged_bodies.specs.Held.{Permits}
 use Rattle.au_judged_bodies.specs.Keys.{Key}
+use Rattle.au_judged_bodies.specs.Known.{Calls}
 use Rattle.au_judged_bodies.specs.Tables.{types_of}
 use Rattle.au_judged_programs.specs.RunningBodiesBodies.{generics_of}
 use Rattle.au_judged_programs.specs.Programs.{OthersAreSeen}
@@ -46,9 +47,12 @@ OthersAreSeenInBodies program noted =
 abbrev pub OthersOfProgramsAreSeen : List ModuleParts → List NotedParts → Type 0
 OthersOfProgramsAreSeen program noted = IsChecked program noted → OthersAreSeenInBodies program noted
 
--- Calls run in the bodies of a checked program.
-abbrev pub CallsOfProgramsRun : List ModuleParts → List NotedParts → Type 0
-CallsOfProgramsRun program noted = IsChecked program noted → CallsRunInBodies program noted (owner_of program)
+-- Calls run in the bodies of a checked program, where they are allowed.
+abbrev pub CallsOfProgramsRun : (program : List ModuleParts) (noted : List NotedParts) {E H : Type 0}
+    → Calls (Key program noted) E → Permits (Key program noted) H → Type 0
+CallsOfProgramsRun program noted calls handed =
+    IsChecked program noted → CallsAreAllowed program noted handed calls
+    → CallsRunInBodies program noted handed calls (owner_of program)
 
 -- Every run of a program with notes from such a function is seen well, and what is born of an opaque type is
 -- born in its own module, whatever the input and however many ticks there are, and whichever numbers the
@@ -68,7 +72,7 @@ EntriesRunWell program noted = IsChecked program noted → AllRunsAreSeenWell pr
 abbrev pub EntriesHoldWell : (program : List ModuleParts) (noted : List NotedParts) {W : Type 0}
     → Permits (Key program noted) W → Type 0
 EntriesHoldWell program noted permits =
-    IsChecked program noted → AreCovered program noted permits → (target : Target)
+    IsChecked program noted → AreCovered program noted (anything (Key program noted)) permits → (target : Target)
     → IsEntryHere program noted target → (first : Instance → ℕ) (input : List ℕ) (ticks : ℕ)
     → HoldsWhereCut (types_of program) (owner_of program) permits
     (mean (generic_functions program noted first) (record { of = target; given = [] }) input ticks)

@@ -60,12 +60,12 @@ module _ (program : List ModuleParts) (noted : List NotedParts) (body : BodyOf) 
   -- good and its regions may be used, where constants stand and calls run, where integers are permitted, and
   -- where it is what it is asked besides.
   abbrev pub BodiesOfProgramsRun : (ClosedType → Option (List ℕ)) → {K : Type 0} → Callables Instance K
-      → {V W : Type 0} → Permits V W → V → Type 0
-  BodiesOfProgramsRun owner known permits key =
+      → (Meaning → Type 0) → {V W : Type 0} → Permits V W → V → Type 0
+  BodiesOfProgramsRun owner known may_hand permits key =
       IsChecked program noted
       → (good : GoodBody (outside_of program body.place Body) body.generics body.header body.block)
       → ConstantsStand program noted body.place generics_of given
-      → CallsRunHere program noted body.place generics_of given owner known
+      → CallsRunHere program noted body.place generics_of given owner known may_hand
       → ((kind : IntKind) → IsPermitted permits key (integer kind))
       → (loose active : ℕ → Bool) (first : ℕ) (s : Bindings) (names : ℕ → Meaning)
       → AreGoodHere program noted body.place generics_of given s
@@ -73,6 +73,6 @@ module _ (program : List ModuleParts) (noted : List NotedParts) (body : BodyOf) 
       → InScope active (region_for (value_of name s) name))
       → TypesAreUsable active (parameters generics_of) s
       → BesidesAll view_of loose (MayHold permits key (AreGoodHere program noted body.place generics_of given))
-      (first + length (parameters_under program noted given body)) good.scope
+      may_hand (first + length (parameters_under program noted given body)) good.scope
       (meaning.with_parameters first (parameters_under program noted given body) []) body.block
       → BodyRuns owner known permits key loose active first s names

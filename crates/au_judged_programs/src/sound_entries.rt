@@ -6,6 +6,7 @@ ghost use Rattle.au_judged_bodies.specs.Trees.{NotedParts};
 ghost use Rattle.au_judged_programs.specs.Entries.{AcceptedEntriesRunWell, CallsOfProgramsRun};
 ghost use Rattle.au_judged_bodies.specs.Held.{Permits};
 ghost use Rattle.au_judged_bodies.specs.Keys.{Key};
+ghost use Rattle.au_judged_bodies.specs.Known.{Calls};
 ghost use Rattle.au_judged_programs.specs.Entries.{EntriesHoldWell, EntriesRunWell};
 ghost use Rattle.au_judged_programs.specs.Entries.{OthersOfProgramsAreSeen};
 
@@ -14,9 +15,10 @@ pub fn others_are_seen()
     ensures { (program : List ModuleParts) (noted : List NotedParts) → OthersOfProgramsAreSeen program noted }
 {}
 
-/// Calls run in the bodies of a checked program.
-pub fn calls_of_programs_run()
-    ensures { (program : List ModuleParts) (noted : List NotedParts) → CallsOfProgramsRun program noted }
+/// Calls run in the bodies of a checked program, where they are allowed.
+pub fn calls_of_programs_run<E, H>()
+    ensures { (program : List ModuleParts) (noted : List NotedParts) (calls : Calls (Key program noted) E)
+        (handed : Permits (Key program noted) H) → CallsOfProgramsRun program noted calls handed }
 {}
 
 /// Every run of a checked program from what has the form of an entry is seen well.
