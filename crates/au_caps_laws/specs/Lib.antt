@@ -8,5 +8,6 @@ pub mod Births
 pub mod Reported
 pub mod Texts
 pub mod Reach
+pub mod Held
 pub mod Watching
 pub mod Passing

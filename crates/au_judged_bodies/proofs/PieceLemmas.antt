@@ -154,7 +154,7 @@ found_lasts name next (f ∷ rest) e each =
     by true e later = subst (λ u. is_lasting u ≡ true) (same_Some f.of next e) (each 0 f refl)
     by false e later = later e
 
-behind_write : (t of : Meaning) → lent mode.Reborrow t ≡ Some of → (region : Region) × (t ≡ writes of region)
+pub behind_write : (t of : Meaning) → lent mode.Reborrow t ≡ Some of → (region : Region) × (t ≡ writes of region)
 behind_write (writes t region) of e = (region, ap (λ u. writes u region) (same_Some t of e))
 behind_write mean.unit of e = absurd (none-some of e)
 behind_write mean.truth of e = absurd (none-some of e)
