@@ -38,7 +38,7 @@ use Rattle.au_meaning.specs.Worlds.{World}
 use Rattle.au_memory.specs.Forests.{empty}
 use Rattle.au_tables.specs.Tables.{types_of}
 use Rattle.au_owners.specs.Owners.{owner_of}
-use Rattle.au_outcomes.specs.Programs.{program_modules}
+use Rattle.au_accepted.specs.Programs.{program_modules}
 use Rattle.au_safe_ships.specs.Frames.{Frame}
 use Rattle.au_judged_bodies.specs.Covering.{Covers, MayHold}
 use Rattle.au_judged_bodies.specs.Held.{AllHeld, HoldsWell, IsHeld, IsPermitted, Permits}

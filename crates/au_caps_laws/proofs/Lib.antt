@@ -18,3 +18,6 @@ pub mod AcceptedLemmas
 pub mod TextLemmas
 pub mod ReachLemmas
 pub mod HeldLemmas
+pub mod AlikeLemmas
+pub mod WatchLemmas
+pub mod PassLemmas

@@ -16,9 +16,9 @@ use Rattle.au_closed_meanings.specs.Generic.{generic_functions}
 use Rattle.au_memory.specs.Forests.{Made, empty}
 use Rattle.au_tables.specs.Tables.{types_of}
 use Rattle.au_owners.specs.Owners.{owner_of}
-use Rattle.au_outcomes.specs.Accepted.{AreAcceptedAs}
-use Rattle.au_outcomes.specs.Programs.{program_modules}
-use Rattle.au_outcomes.specs.Trees.{ReadFile}
+use Rattle.au_accepted.specs.Accepted.{AreAcceptedAs}
+use Rattle.au_accepted.specs.Programs.{program_modules}
+use Rattle.au_accepted.specs.Trees.{ReadFile}
 use Rattle.au_safe_ships.specs.Frames.{Frame}
 use Rattle.au_safe_ships.specs.Good.{IsIn}
 use Rattle.au_safe_ships.specs.Orders.{Act}

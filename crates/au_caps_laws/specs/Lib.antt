@@ -8,3 +8,5 @@ pub mod Births
 pub mod Reported
 pub mod Reach
 pub mod Held
+pub mod Watching
+pub mod Passing

@@ -145,6 +145,16 @@ module _ (program : List ModuleParts) (noted : List NotedParts) (checked : IsChe
     open_none = refl;
   }
 
+-- A function of the form of an entry is called in a way that is an entry, whichever numbers the first names of
+-- functions have.
+pub entry_way : (program : List ModuleParts) (noted : List NotedParts) → IsChecked program noted → (target : Target)
+    → IsEntryHere program noted target → (first : Instance → ℕ)
+    → (way : Key program noted) × (way.one ≡ record { of = target; given = [] })
+    × IsEntry (types_of program) (owner_of program) (ways program noted) (generic_functions program noted first) way
+entry_way program noted checked target entry first =
+    let calls = calls_of_programs program noted checked in
+    (key program noted checked calls target entry, refl, is_entry program noted checked calls target entry first)
+
 pub entries_well : (program : List ModuleParts) (noted : List NotedParts) → EntriesRunWell program noted
 entries_well program noted checked target entry first input ticks =
     let calls = any_calls program noted checked in
