@@ -152,8 +152,7 @@ pub entry_way : (program : List ModuleParts) (noted : List NotedParts) → IsChe
     → (way : Key program noted) × (way.one ≡ record { of = target; given = [] })
     × IsEntry (types_of program) (owner_of program) (ways program noted) (generic_functions program noted first) way
 entry_way program noted checked target entry first =
-    let calls = calls_of_programs program noted checked in
-    (key program noted checked calls target entry, refl, is_entry program noted checked calls target entry first)
+    (key program noted checked target entry, refl, is_entry program noted checked target entry first)
 
 pub entries_well : (program : List ModuleParts) (noted : List NotedParts) → EntriesRunWell program noted
 entries_well program noted checked target entry first input ticks =
