@@ -27,6 +27,7 @@ use Rattle.au_names.specs.HeadsOf.{heads_of}
 use Rattle.au_names.proofs.AmongLemmas.{among}
 use Rattle.au_typing.specs.Bodies.{outer_scope}
 use Rattle.au_typing.specs.Lookups.{written_type}
+use Rattle.au_typing.specs.Notes.{type_of}
 use Rattle.au_typing.specs.Outsides.{outside_of}
 use Rattle.au_typing.specs.Parts.{borrow_type, lent}
 use Rattle.au_typing.specs.Scopes.{Outside, Scope}
@@ -49,7 +50,7 @@ use Rattle.au_judged_bodies.proofs.NotedLemmas.{written_known}
 use Rattle.au_judged_bodies.proofs.PieceLemmas.{behind_write}
 use Rattle.au_judged_bodies.proofs.StandingTypesStandLemmas.{known_closes}
 use Rattle.au_judged_programs.specs.CheckedChecked.{IsChecked}
-use Rattle.au_judged_programs.specs.Judged.{AreCovered}
+use Rattle.au_judged_programs.specs.Judged.{AreCovered, anything}
 use Rattle.au_judged_programs.specs.RoundProgramsBodies.{AreGoodHere}
 use Rattle.au_judged_programs.specs.RunningBodiesBodies.{generics_of}
 use Rattle.au_judged_programs.proofs.EntryLemmas.{entries_held}
@@ -57,7 +58,7 @@ use Rattle.au_judged_programs.proofs.FitLemmas.{accepted_checked}
 use Rattle.au_judged_programs.proofs.FoundLemmas.{found_entry}
 use Rattle.au_judged_programs.proofs.RunLemmas.{runs_held}
 use Rattle.au_judged_programs.proofs.RunningBodiesBodyLemmas.{meant_so, params_alike}
-use Rattle.au_judged_programs.proofs.SoundEntriesCallLemmas.{calls_of_programs}
+use Rattle.au_judged_programs.proofs.SoundEntriesCallLemmas.{any_calls}
 use Rattle.au_closed_meanings.specs.Numbers.{first_name}
 use Rattle.au_caps_lists.specs.Bodies.{Bodied}
 use Rattle.au_caps_lists.specs.Holding.{Holds}
@@ -193,8 +194,8 @@ module _ (program : List ModuleParts) (noted : List NotedParts) where
       held = held;
     }
 
-    body_covered : Covers (MayHold permits key (AreGoodHere program noted b.place generics given)) outside generics
-        b.header.parameters b.block
+    body_covered : Covers (MayHold permits key (AreGoodHere program noted b.place generics given))
+        (IsPermitted (anything (Key program noted)) key) outside generics b.header.parameters b.block
     body_covered = record {
       integers = λ kind s good. permitted_for key (integer kind) (integer_listed key b runs kind);
       references = λ m region t of e held s good.
@@ -209,15 +210,16 @@ module _ (program : List ModuleParts) (noted : List NotedParts) where
           permitted_for key (running s 0 t)
           (type_listed s t (closes_so sc same over w t is s good)
           (variables_held program b given w there sc.regions t (means_so sc same over w t is)));
+      handed = λ e there. ((key, type_of e), refl, refl);
     }
 
-  all_covered : AreCovered program noted permits
+  all_covered : AreCovered program noted (anything (Key program noted)) permits
   all_covered key =
       let its = run_there program noted key.one.of key.body key.there in
       subst (λ (body : BodyOf). Covers
       (MayHold permits key
       (AreGoodHere program noted body.place (generics_of program noted body key.one.given) key.one.given))
-      (outside_of program body.place Body) (generics_of program noted body key.one.given)
+      (IsPermitted (anything (Key program noted)) key) (outside_of program body.place Body) (generics_of program noted body key.one.given)
       body.header.parameters body.block)
       its.2 (body_covered key its.0 its.1.run)
 
@@ -250,7 +252,7 @@ module _ (program : List ModuleParts) (noted : List NotedParts) where
   pub runs_listed : IsChecked program noted → RunsAreListed program noted
   runs_listed checked first key entry input ticks ended =
       world_listed _
-      (runs_held program noted (owner_of program) permits checked (calls_of_programs program noted checked) all_covered
+      (runs_held program noted (owner_of program) permits checked (any_calls program noted checked) all_covered
       first key entry input ticks ended)
 
   pub entries_listed : IsChecked program noted → EntriesAreListed program noted
