@@ -55,7 +55,8 @@ module _ (types : Types) (owner : ClosedType → Option (List ℕ)) {K W : Type 
     (laws : RunsAreSafe types owner) {I T C : Type 0}
     (known : Callables I K) (invoke : I → List Value → Action Value)
     (calls_safe : CallsSafe types owner permits known invoke) (depth : ℕ) (f : Function I T C) (key : K)
-    (may : MayRun types owner permits known f key) (acts : List Act) (fs : List Frame) (sizes : List ℕ) (made under : Made)
+    (may : MayRun types owner permits known f key) (acts : List Act) (fs : List Frame) (sizes : List ℕ)
+    (made under : Made)
     (active : AreActive (is_active acts) (known.tokens key)) (waiting : AllWait permits (is_active acts) fs)
     (many : length sizes ≡ length fs) (typed : types_made made ≡ known.parameters key) where
   abbrev args : List Value
@@ -106,8 +107,8 @@ module _ (types : Types) (owner : ClosedType → Option (List ℕ)) {K W : Type 
     fine = subst (λ (c : ℕ). (k : ℕ) → (put_each f.first c forest.ready (λ j. empty) k ≡ empty)
         ⊎ IsFine types may.loose permits key k (names k))
         (sym may.many)
-        (fine_each types owner permits laws.steps key may.loose (known.result key) acts (lying_in w) fs more_sizes size running f.view
-        known invoke calls_safe waiting f.first (known.parameters key) (λ k. empty) may.names may.fine
+        (fine_each types owner permits laws.steps key may.loose (known.result key) acts (lying_in w) fs more_sizes size
+        running f.view known invoke calls_safe waiting f.first (known.parameters key) (λ k. empty) may.names may.fine
         (λ k. inl refl));
     bottom = refl;
     state = laws.steps.renamed acts fs more_sizes under w hold (frame_of f.first made).type names given
@@ -139,34 +140,37 @@ module _ (types : Types) (owner : ClosedType → Option (List ℕ)) {K W : Type 
       → GoodHeld types owner permits (Done w)
       ((run_block f.view invoke depth (f.first + length f.parameters) (scope_of f) f.body >>= returned) w ticks)
   body_good w ticks state =
-      let q = Ends types owner permits laws.steps key may.loose (known.result key) acts (lying_in w) fs more_sizes size running []
-      (f.first + length f.parameters) (f.first + length f.parameters) names (λ h. ⊥) (λ ns. Unit {0}) under in
+      let q = Ends types owner permits laws.steps key may.loose (known.result key) acts (lying_in w) fs more_sizes size
+      running [] (f.first + length f.parameters) (f.first + length f.parameters) names (λ h. ⊥) (λ ns. Unit {0}) under
+      in
       good_then owner _ q (Done w)
       (run_block f.view invoke depth (f.first + length f.parameters) (scope_of f) f.body w ticks) returned
       (good_then owner _
-      (Ends types owner permits laws.steps key may.loose (known.result key) acts (lying_in w) fs more_sizes size running []
-      (f.first + length f.parameters) ((f.first + length f.parameters) + names_in_block f.body) names (λ h. ⊥)
+      (Ends types owner permits laws.steps key may.loose (known.result key) acts (lying_in w) fs more_sizes size running
+      [] (f.first + length f.parameters) ((f.first + length f.parameters) + names_in_block f.body) names (λ h. ⊥)
       (λ ns. Unit {0}) under) q
       (run_all f.view invoke depth (f.first + length f.parameters) (scope_of f) f.body w ticks)
       (and_then (empties (f.first + length f.parameters) (names_in_block f.body)))
-      (all_safe types owner permits laws.steps key may.loose (known.result key) acts (lying_in w) fs more_sizes size running f.view known
-      invoke calls_safe waiting depth f.body (f.first + length f.parameters) (scope_of f) [] (λ h. ⊥) hold names under w
-      ticks may.ahead (may.runs (is_active acts) active) (omega arith) (began w state)) ends)
-      gave
+      (all_safe types owner permits laws.steps key may.loose (known.result key) acts (lying_in w) fs more_sizes size
+      running f.view known invoke calls_safe waiting depth f.body (f.first + length f.parameters) (scope_of f) []
+      (λ h. ⊥) hold names under w ticks may.ahead (may.runs (is_active acts) active) (omega arith) (began w state))
+      ends) gave
     where
       ends : (flow : Flow) (n : World) (left : ℕ)
-          → Ends types owner permits laws.steps key may.loose (known.result key) acts (lying_in w) fs more_sizes size running []
+          → Ends types owner permits laws.steps key may.loose (known.result key) acts
+          (lying_in w) fs more_sizes size running []
           (f.first + length f.parameters) ((f.first + length f.parameters) + names_in_block f.body) names (λ h. ⊥)
           (λ ns. Unit {0}) under flow n
           → GoodHeld types owner permits
-          (Ends types owner permits laws.steps key may.loose (known.result key) acts (lying_in w) fs more_sizes size running []
-          (f.first + length f.parameters) (f.first + length f.parameters) names (λ h. ⊥) (λ ns. Unit {0}) under)
-          (and_then (empties (f.first + length f.parameters) (names_in_block f.body)) flow n left)
+          (Ends types owner permits laws.steps key may.loose (known.result key) acts (lying_in w) fs more_sizes size
+          running [] (f.first + length f.parameters) (f.first + length f.parameters) names (λ h. ⊥) (λ ns. Unit {0})
+          under) (and_then (empties (f.first + length f.parameters) (names_in_block f.body)) flow n left)
       ends falls n left fell = absurd fell.ahead
       ends (returns v) n left gone = gone
 
       gave : (flow : Flow) (n : World) (left : ℕ)
-          → Ends types owner permits laws.steps key may.loose (known.result key) acts (lying_in w) fs more_sizes size running []
+          → Ends types owner permits laws.steps key may.loose (known.result key) acts
+          (lying_in w) fs more_sizes size running []
           (f.first + length f.parameters) (f.first + length f.parameters) names (λ h. ⊥) (λ ns. Unit {0}) under flow n
           → GoodHeld types owner permits (Done w) (returned flow n left)
       gave falls n left fell = absurd fell.ahead
@@ -179,8 +183,8 @@ module _ (types : Types) (owner : ClosedType → Option (List ℕ)) {K W : Type 
       (ends_frame (closed_to (length (lying_in w)) n))
       × (lying_in (ends_frame (closed_to (length (lying_in w)) n)) ≡ lying_in w)
   leaves w v n gone =
-      let over = all_ended types owner permits laws.steps.actions acts (lying_in w) fs more_sizes waiting gone.newest gone.own
-      gone.hold gone.names ((v, known.result key) ∷ under) n gone.going.bottom gone.going.state in
+      let over = all_ended types owner permits laws.steps.actions acts (lying_in w) fs more_sizes waiting gone.newest
+      gone.own gone.hold gone.names ((v, known.result key) ∷ under) n gone.going.bottom gone.going.state in
       let m = closed_to (length (lying_in w)) n in
       let last : Going types owner permits key may.loose (known.result key) acts (lying_in w) fs more_sizes size [] size
       (λ k. freed_each (tokens (gone.newest ∷ gone.own)) (gone.hold k)) gone.names ((v, known.result key) ∷ under)
@@ -195,14 +199,16 @@ module _ (types : Types) (owner : ClosedType → Option (List ℕ)) {K W : Type 
       let left = laws.left acts fs more_sizes ((v, known.result key) ∷ under) (closed_to (length (lying_in w)) n)
       laws.steps.actions.typed
       (frame (λ k. freed_each (tokens (gone.newest ∷ gone.own)) (gone.hold k)) gone.names) size
-      (λ k. loose_is types owner permits laws.steps key may.loose (known.result key) acts (lying_in w) fs more_sizes size running [] size
-      (λ k. freed_each (tokens (gone.newest ∷ gone.own)) (gone.hold k)) gone.names ((v, known.result key) ∷ under)
-      (closed_to (length (lying_in w)) n) last k (gone.over k))
-      (λ k from. freed_none (tokens (gone.newest ∷ gone.own)) (gone.hold k) (gone.going.clear k from)) running.count over.0
+      (λ k. loose_is types owner permits laws.steps key may.loose (known.result key) acts (lying_in w) fs more_sizes
+      size running [] size (λ k. freed_each (tokens (gone.newest ∷ gone.own)) (gone.hold k)) gone.names
+      ((v, known.result key) ∷ under) (closed_to (length (lying_in w)) n) last k (gone.over k))
+      (λ k from. freed_none (tokens (gone.newest ∷ gone.own)) (gone.hold k) (gone.going.clear k from)) running.count
+      over.0
       in (
         subst (λ (xs : List ℕ). IsIn types owner acts fs xs ((v, known.result key) ∷ under)
             (ends_frame (closed_to (length (lying_in w)) n)))
-            (take_at sizes (length (new_names f.first (values_of made) (names_in_block f.body)) ∷ []) (length fs) many) left,
+            (take_at sizes (length (new_names f.first (values_of made) (names_in_block f.body)) ∷ []) (length fs)
+            many) left,
         over.1,
       )
     where
@@ -258,7 +264,8 @@ module _ (types : Types) (owner : ClosedType → Option (List ℕ)) {K W : Type 
           → GoodHeld types owner permits
           (λ (v : Value) n. IsIn types owner acts fs sizes ((v, known.result key) ∷ under) (ends_frame n)
           × (lying_in (ends_frame n) ≡ lying_in m))
-          (closing (run_block f.view invoke depth (f.first + length f.parameters) (scope_of f) f.body >>= returned) m left)
+          (closing (run_block f.view invoke depth (f.first + length f.parameters) (scope_of f) f.body >>= returned) m
+          left)
       closed_good m left is =
           let counted = (laws.steps.actions.counted acts (frame_of f.first made ∷ fs) more_sizes under m).0 in
           good_closing owner _
@@ -279,10 +286,11 @@ module _ (types : Types) (owner : ClosedType → Option (List ℕ)) {K W : Type 
 pub calls_at_safe : (types : Types) (owner : ClosedType → Option (List ℕ)) {K W : Type 0} (permits : Permits K W)
     (laws : RunsAreSafe types owner)
     {I T C : Type 0} (known : Callables I K) (functions : I → Option (Function I T C))
-    → AllRun types owner permits known functions → (depth : ℕ) → CallsSafe types owner permits known (call_at functions depth)
+    → AllRun types owner permits known functions → (depth : ℕ)
+    → CallsSafe types owner permits known (call_at functions depth)
 unfolding call_at
-calls_at_safe types owner permits laws known functions all zero key acts fs sizes made under w ticks active waiting many typed
-    state = (
+calls_at_safe types owner permits laws known functions all zero key acts fs sizes made under w ticks active waiting many
+    typed state = (
       laws.steps.actions.told acts fs sizes (onto made under) w state,
       record {
         acts = acts;
@@ -293,12 +301,12 @@ calls_at_safe types owner permits laws known functions all zero key acts fs size
         held = all_held permits (is_active acts) fs waiting;
       },
     )
-calls_at_safe types owner permits laws known functions all (suc depth) key acts fs sizes made under w ticks active waiting many
-    typed state =
+calls_at_safe types owner permits laws known functions all (suc depth) key acts fs sizes made under w ticks active
+    waiting many typed state =
     let one = all key in
     subst (λ o. GoodHeld types owner permits
     (λ (v : Value) n. IsIn types owner acts fs sizes ((v, known.result key) ∷ under) n × (lying_in n ≡ lying_in w))
     (enters (call_at functions depth) depth o (values_of made) w ticks)) (sym one.1)
     (enters_good types owner permits laws known (call_at functions depth)
-    (calls_at_safe types owner permits laws known functions all depth) depth one.0 key one.2 acts fs sizes made under active waiting
-    many typed w ticks state)
+    (calls_at_safe types owner permits laws known functions all depth) depth one.0 key one.2 acts fs sizes made under
+    active waiting many typed w ticks state)
