@@ -139,13 +139,14 @@ module _ (types : Types) (owner : ClosedType → Option (List ℕ)) {K W : Type 
       → GoodHeld types owner permits (Done w)
       ((run_block f.view invoke depth (f.first + length f.parameters) (scope_of f) f.body >>= returned) w ticks)
   body_good w ticks state =
-      let q = Ends types owner permits laws.steps key may.loose (known.result key) acts (lying_in w) fs more_sizes size running []
-      (f.first + length f.parameters) (f.first + length f.parameters) names (λ h. ⊥) (λ ns. Unit {0}) under in
+      let q = Ends types owner permits laws.steps key may.loose (known.result key) acts (lying_in w) fs more_sizes size
+      running [] (f.first + length f.parameters) (f.first + length f.parameters) names (λ h. ⊥) (λ ns. Unit {0}) under
+      in
       good_then owner _ q (Done w)
       (run_block f.view invoke depth (f.first + length f.parameters) (scope_of f) f.body w ticks) returned
       (good_then owner _
-      (Ends types owner permits laws.steps key may.loose (known.result key) acts (lying_in w) fs more_sizes size running []
-      (f.first + length f.parameters) ((f.first + length f.parameters) + names_in_block f.body) names (λ h. ⊥)
+      (Ends types owner permits laws.steps key may.loose (known.result key) acts (lying_in w) fs more_sizes size running
+      [] (f.first + length f.parameters) ((f.first + length f.parameters) + names_in_block f.body) names (λ h. ⊥)
       (λ ns. Unit {0}) under) q
       (run_all f.view invoke depth (f.first + length f.parameters) (scope_of f) f.body w ticks)
       (and_then (empties (f.first + length f.parameters) (names_in_block f.body)))
@@ -155,18 +156,20 @@ module _ (types : Types) (owner : ClosedType → Option (List ℕ)) {K W : Type 
       gave
     where
       ends : (flow : Flow) (n : World) (left : ℕ)
-          → Ends types owner permits laws.steps key may.loose (known.result key) acts (lying_in w) fs more_sizes size running []
+          → Ends types owner permits laws.steps key may.loose (known.result key) acts
+          (lying_in w) fs more_sizes size running []
           (f.first + length f.parameters) ((f.first + length f.parameters) + names_in_block f.body) names (λ h. ⊥)
           (λ ns. Unit {0}) under flow n
           → GoodHeld types owner permits
-          (Ends types owner permits laws.steps key may.loose (known.result key) acts (lying_in w) fs more_sizes size running []
-          (f.first + length f.parameters) (f.first + length f.parameters) names (λ h. ⊥) (λ ns. Unit {0}) under)
-          (and_then (empties (f.first + length f.parameters) (names_in_block f.body)) flow n left)
+          (Ends types owner permits laws.steps key may.loose (known.result key) acts (lying_in w) fs more_sizes size
+          running [] (f.first + length f.parameters) (f.first + length f.parameters) names (λ h. ⊥) (λ ns. Unit {0})
+          under) (and_then (empties (f.first + length f.parameters) (names_in_block f.body)) flow n left)
       ends falls n left fell = absurd fell.ahead
       ends (returns v) n left gone = gone
 
       gave : (flow : Flow) (n : World) (left : ℕ)
-          → Ends types owner permits laws.steps key may.loose (known.result key) acts (lying_in w) fs more_sizes size running []
+          → Ends types owner permits laws.steps key may.loose (known.result key) acts
+          (lying_in w) fs more_sizes size running []
           (f.first + length f.parameters) (f.first + length f.parameters) names (λ h. ⊥) (λ ns. Unit {0}) under flow n
           → GoodHeld types owner permits (Done w) (returned flow n left)
       gave falls n left fell = absurd fell.ahead
@@ -179,8 +182,8 @@ module _ (types : Types) (owner : ClosedType → Option (List ℕ)) {K W : Type 
       (ends_frame (closed_to (length (lying_in w)) n))
       × (lying_in (ends_frame (closed_to (length (lying_in w)) n)) ≡ lying_in w)
   leaves w v n gone =
-      let over = all_ended types owner permits laws.steps.actions acts (lying_in w) fs more_sizes waiting gone.newest gone.own
-      gone.hold gone.names ((v, known.result key) ∷ under) n gone.going.bottom gone.going.state in
+      let over = all_ended types owner permits laws.steps.actions acts (lying_in w) fs more_sizes waiting gone.newest
+      gone.own gone.hold gone.names ((v, known.result key) ∷ under) n gone.going.bottom gone.going.state in
       let m = closed_to (length (lying_in w)) n in
       let last : Going types owner permits key may.loose (known.result key) acts (lying_in w) fs more_sizes size [] size
       (λ k. freed_each (tokens (gone.newest ∷ gone.own)) (gone.hold k)) gone.names ((v, known.result key) ∷ under)
@@ -195,14 +198,16 @@ module _ (types : Types) (owner : ClosedType → Option (List ℕ)) {K W : Type 
       let left = laws.left acts fs more_sizes ((v, known.result key) ∷ under) (closed_to (length (lying_in w)) n)
       laws.steps.actions.typed
       (frame (λ k. freed_each (tokens (gone.newest ∷ gone.own)) (gone.hold k)) gone.names) size
-      (λ k. loose_is types owner permits laws.steps key may.loose (known.result key) acts (lying_in w) fs more_sizes size running [] size
-      (λ k. freed_each (tokens (gone.newest ∷ gone.own)) (gone.hold k)) gone.names ((v, known.result key) ∷ under)
-      (closed_to (length (lying_in w)) n) last k (gone.over k))
-      (λ k from. freed_none (tokens (gone.newest ∷ gone.own)) (gone.hold k) (gone.going.clear k from)) running.count over.0
+      (λ k. loose_is types owner permits laws.steps key may.loose (known.result key) acts (lying_in w) fs more_sizes
+      size running [] size (λ k. freed_each (tokens (gone.newest ∷ gone.own)) (gone.hold k)) gone.names
+      ((v, known.result key) ∷ under) (closed_to (length (lying_in w)) n) last k (gone.over k))
+      (λ k from. freed_none (tokens (gone.newest ∷ gone.own)) (gone.hold k) (gone.going.clear k from)) running.count
+      over.0
       in (
         subst (λ (xs : List ℕ). IsIn types owner acts fs xs ((v, known.result key) ∷ under)
             (ends_frame (closed_to (length (lying_in w)) n)))
-            (take_at sizes (length (new_names f.first (values_of made) (names_in_block f.body)) ∷ []) (length fs) many) left,
+            (take_at sizes (length (new_names f.first (values_of made) (names_in_block f.body)) ∷ []) (length fs)
+            many) left,
         over.1,
       )
     where
@@ -258,7 +263,8 @@ module _ (types : Types) (owner : ClosedType → Option (List ℕ)) {K W : Type 
           → GoodHeld types owner permits
           (λ (v : Value) n. IsIn types owner acts fs sizes ((v, known.result key) ∷ under) (ends_frame n)
           × (lying_in (ends_frame n) ≡ lying_in m))
-          (closing (run_block f.view invoke depth (f.first + length f.parameters) (scope_of f) f.body >>= returned) m left)
+          (closing (run_block f.view invoke depth (f.first + length f.parameters) (scope_of f) f.body >>= returned) m
+          left)
       closed_good m left is =
           let counted = (laws.steps.actions.counted acts (frame_of f.first made ∷ fs) more_sizes under m).0 in
           good_closing owner _

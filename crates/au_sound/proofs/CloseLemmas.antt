@@ -114,8 +114,8 @@ module _ (types : Types) (owner : ClosedType → Option (List ℕ)) {V W : Type 
       → IsIn types owner (own ++ below) (frame (λ k. freed a.token (hold k)) names ∷ fs) sizes made
       (closed_to (length a.base) n)
   one_ended a own hold names made n state =
-      subst (λ (gs : List Frame). IsIn types owner (own ++ below) (frame (λ k. freed a.token (hold k)) names ∷ gs) sizes made
-      (closed_to (length a.base) n))
+      subst (λ (gs : List Frame). IsIn types owner (own ++ below) (frame (λ k. freed a.token (hold k)) names ∷ gs) sizes
+      made (closed_to (length a.base) n))
       (frames_stay permits (is_active (own ++ below)) a.token fs
       (all_more permits (is_active below) (is_active (own ++ below)) (more_active own below) fs waiting)
       (newest_off a (own ++ below) state.safe.inv.sorted))
@@ -138,5 +138,5 @@ module _ (types : Types) (owner : ClosedType → Option (List ℕ)) {V W : Type 
       let less : length base ≤ length a.base =
       bottom_below (b ∷ own) below a.base base state.safe.inv.stacked.1 bottom in
       subst (λ (m : World). IsIn types owner below
-      (frame (λ k. freed_each (tokens (b ∷ own)) (freed a.token (hold k))) names ∷ fs) sizes made m × (lying_in m ≡ base))
-      (closed_twice (length base) (length a.base) n less) rest
+      (frame (λ k. freed_each (tokens (b ∷ own)) (freed a.token (hold k))) names ∷ fs) sizes made m
+      × (lying_in m ≡ base)) (closed_twice (length base) (length a.base) n less) rest

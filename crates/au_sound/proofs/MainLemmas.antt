@@ -25,7 +25,8 @@ module _ (types : Types) (owner : ClosedType → Option (List ℕ)) {K W : Type 
   Gave t v n = IsIn types owner [] [] [] ((v, t) ∷ []) n × (lying_in n ≡ [])
 
   -- what comes of an entry is seen well
-  seen_well : (t : Meaning) → IsExitOf types t → (ticks : ℕ) (out : Out Value) → GoodHeld types owner permits (Gave t) out
+  seen_well : (t : Meaning) → IsExitOf types t → (ticks : ℕ) (out : Out Value)
+      → GoodHeld types owner permits (Gave t) out
       → IsSeenWell owner (seen ticks out)
   seen_well t exits ticks (gives v n left) good =
       let told = laws.steps.actions.told [] [] [] ((v, t) ∷ []) n good.0 in
@@ -44,7 +45,8 @@ module _ (types : Types) (owner : ClosedType → Option (List ℕ)) {K W : Type 
   seen_well t exits ticks (no_rule n left) good = absurd good
 
   -- and where it was cut off, names hold what they may
-  holds_well : (t : Meaning) → IsExitOf types t → (ticks : ℕ) (out : Out Value) → GoodHeld types owner permits (Gave t) out
+  holds_well : (t : Meaning) → IsExitOf types t → (ticks : ℕ) (out : Out Value)
+      → GoodHeld types owner permits (Gave t) out
       → HoldsWhereCut types owner permits (seen ticks out)
   holds_well t exits ticks (gives v n left) good is =
       let over = laws.exits [] [] [] [] n laws.steps.actions.typed v t exits good.0 in
@@ -61,7 +63,8 @@ module _ (types : Types) (owner : ClosedType → Option (List ℕ)) {K W : Type 
 
     begun_good : (ts : List Meaning) (ps : List Field) → TakesRoot types owner ts ps → ts ≡ known.parameters key
         → (input : List ℕ) (ticks : ℕ)
-        → GoodHeld types owner permits (Gave (known.result key)) (begun ps (call_at functions depth (known.of key)) (first_world input) ticks)
+        → GoodHeld types owner permits (Gave (known.result key))
+        (begun ps (call_at functions depth (known.of key)) (first_world input) ticks)
     begun_good [] [] takes same input ticks =
         calls_at_safe types owner permits laws known calls functions all depth key [] [] [] [] [] (first_world input) ticks
         (none_active (is_active [])) tt refl same (laws.starts types owner input)

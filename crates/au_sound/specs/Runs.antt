@@ -63,7 +63,8 @@ pub record IsEntry (types : Types) (owner : ClosedType → Option (List ℕ)) {I
   pub gives : IsExitOf types (known.result key)
   pub open_none : known.tokens key ≡ []
 
--- Where a run is cut off, names hold what they may.
+-- Where a run is cut off, before whichever of its ticks, there is a way for each frame in which functions are
+-- called, such that each of its names that holds something is of a type that is permitted in this way.
 abbrev pub HoldsWhereCut : (types : Types) → (ClosedType → Option (List ℕ)) → {V W : Type 0} → Permits V W
     → Outcome → Type 0
 HoldsWhereCut types owner permits seen = seen.ending ≡ running → HoldsWell types owner permits seen.world

@@ -22,7 +22,8 @@ use Rattle.au_sound_expressions.specs.Safe.{AllWait, CallsSafe}
 use Rattle.au_sound_blocks.specs.Flows.{Flows, Going, tokens}
 use Rattle.au_sound_blocks.specs.Steps.{StepsAreSafe}
 
--- Statements one after another that return on each way leave a frame that may end.
+-- Statements one after another that return on each way leave a frame that may end; and names hold what they
+-- may wherever their run is cut off.
 abbrev pub BodiesAreSafe : (types : Types) → (ClosedType → Option (List ℕ)) → {V W : Type 0}
     → Permits V W → {I T C K : Type 0} → View I T C → Callables I K → (I → List Value → Action Value) → Type 0
 BodiesAreSafe types owner {V} permits {T = T} {C = C} see known invoke =
@@ -33,7 +34,8 @@ BodiesAreSafe types owner {V} permits {T = T} {C = C} see known invoke =
     → (depth number : ℕ) (scope : Scope) (block : Statements Bytes T C) (own : List Act) (h : Standing)
     (names : Names)
     (under : Made) (w : World) (ticks : ℕ) → AheadAll see loose number scope (tokens own) block (λ g. ⊥) h
-    → RunsAll types owner see known result loose permits key (is_active (own ++ below)) number scope block names
+    → RunsAll types owner see known result loose permits key (is_active (own ++ below)) number scope block
+    names
     → number + names_in_block block ≤ size
     → Going types owner permits key loose result below base fs sizes size own number h names under w
     → GoodHeld types owner permits
