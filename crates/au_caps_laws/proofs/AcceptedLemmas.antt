@@ -1,5 +1,5 @@
 -- So it is in accepted programs.
-use Rattle.au_outcomes.specs.Programs.{program_modules}
+use Rattle.au_accepted.specs.Programs.{program_modules}
 use Rattle.au_judged_programs.proofs.FitLemmas.{accepted_checked}
 use Rattle.au_caps_laws.specs.Reported.{AcceptedBirthsAreMade, AcceptedRunsAreReported}
 use Rattle.au_caps_laws.proofs.ReportLemmas.{births_made, births_reported}

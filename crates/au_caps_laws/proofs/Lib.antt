@@ -17,3 +17,7 @@ pub mod ReportLemmas
 pub mod AcceptedLemmas
 pub mod TextLemmas
 pub mod ReachLemmas
+pub mod HeldLemmas
+pub mod AlikeLemmas
+pub mod WatchLemmas
+pub mod PassLemmas

@@ -26,7 +26,7 @@ use Rattle.au_typing.specs.Notes.{Note}
 use Rattle.au_typing.specs.Scopes.{Callable, Outside, Typed}
 use Rattle.au_typing.specs.Trees.{NotedParts}
 use Rattle.au_typing.specs.Written.{all_typed, seen_at}
-use Rattle.au_outcomes.specs.Faults.{IsDerived}
+use Rattle.au_accepted.specs.Faults.{IsDerived}
 use Rattle.au_closing.specs.Bodies.{BodyOf, body_of}
 use Rattle.au_closing_laws.specs.Calls.{IsGoodIn}
 use Rattle.au_closing_laws.specs.Targets.{Call, calls_listed}

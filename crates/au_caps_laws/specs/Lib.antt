@@ -6,5 +6,7 @@ pub mod Bearing
 pub mod Laws
 pub mod Births
 pub mod Reported
-pub mod Texts
 pub mod Reach
+pub mod Held
+pub mod Watching
+pub mod Passing

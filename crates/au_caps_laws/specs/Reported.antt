@@ -9,9 +9,9 @@ use Rattle.au_typing.specs.Trees.{NotedParts}
 use Rattle.au_closing.specs.Instances.{Instance}
 use Rattle.au_meaning.specs.Meanings.{mean}
 use Rattle.au_closed_meanings.specs.Generic.{generic_functions}
-use Rattle.au_outcomes.specs.Accepted.{AreAcceptedAs}
-use Rattle.au_outcomes.specs.Programs.{program_modules}
-use Rattle.au_outcomes.specs.Trees.{ReadFile}
+use Rattle.au_accepted.specs.Accepted.{AreAcceptedAs}
+use Rattle.au_accepted.specs.Programs.{program_modules}
+use Rattle.au_accepted.specs.Trees.{ReadFile}
 use Rattle.au_caps_text.specs.declared.reports.Report.{Report}
 use Rattle.au_caps_text.specs.declared.reports.Row.{Row}
 use Rattle.au_caps_lists.specs.Bodies.{Bodied}

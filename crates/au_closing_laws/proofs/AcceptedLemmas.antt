@@ -8,10 +8,10 @@ use Rattle.au_shipped.specs.Shipped.{shipped_files}
 use Rattle.au_syntax.specs.Forms.{formed_module}
 use Rattle.au_modules.specs.Accepted.{IsProgram}
 use Rattle.au_modules.specs.Programs.{Entry}
-use Rattle.au_outcomes.specs.Accepted.{AreAcceptedAs}
-use Rattle.au_outcomes.specs.Outcomes.{AreFiles}
-use Rattle.au_outcomes.specs.Programs.{entries, program_modules, shipped_entries}
-use Rattle.au_outcomes.specs.Trees.{AreRead, ReadFile}
+use Rattle.au_accepted.specs.Accepted.{AreAcceptedAs}
+use Rattle.au_accepted.specs.Files.{AreFiles}
+use Rattle.au_accepted.specs.Programs.{entries, program_modules, shipped_entries}
+use Rattle.au_accepted.specs.Trees.{AreRead, ReadFile}
 use Rattle.au_closing_laws.specs.Gathered.{IsGathered, IsParsed, entry_of}
 
 -- a file that was read has a number among those of the files, and its tree is formed

@@ -25,7 +25,7 @@ use Rattle.au_typing.specs.Bodies.{GoodBody, GoodMethods, generics_in, outer_sco
 use Rattle.au_typing.specs.Derivations.{GoodDeclaration, GoodDeclarations, GoodModules, GoodPart}
 use Rattle.au_typing.specs.InScope.{fixed_variable, with_variable}
 use Rattle.au_typing.specs.Trees.{NotedDeclaration, NotedEntry, NotedMethod, NotedParts}
-use Rattle.au_outcomes.specs.Faults.{IsDerived}
+use Rattle.au_accepted.specs.Faults.{IsDerived}
 use Rattle.au_closing.specs.Bodies.{BodyOf, body_at, body_in, body_of, body_of_parts, body_standing}
 use Rattle.au_closing.specs.Bodies.{declared_in, defining, defining_index, is_method, method_body, noted_at}
 use Rattle.au_closing_laws.specs.Targets.{Call, calls_listed}

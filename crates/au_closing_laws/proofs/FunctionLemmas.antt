@@ -34,7 +34,7 @@ use Rattle.au_typing.specs.Scopes.{Callable, Typed}
 use Rattle.au_typing.specs.Called.{callable, declared_callable, function_called}
 use Rattle.au_typing.specs.Written.{all_typed, meant_in, seen_in, types_at}
 use Rattle.au_typing.specs.Trees.{NotedParts}
-use Rattle.au_outcomes.specs.Faults.{IsDerived}
+use Rattle.au_accepted.specs.Faults.{IsDerived}
 use Rattle.au_closed_trees.specs.TypeNames.{type_names}
 use Rattle.au_closing.specs.Bodies.{BodyOf, body_of}
 use Rattle.au_closing_laws.specs.Targets.{Call, FunctionIsTyped, IsFor, IsTypeOf, bounds_in, bounds_of}

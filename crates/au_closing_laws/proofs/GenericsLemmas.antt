@@ -37,7 +37,7 @@ use Rattle.au_typing.specs.Written.{seen_in, types_at}
 use Rattle.au_typing.specs.Bodies.{generics_in}
 use Rattle.au_typing.specs.Trees.{NotedDeclaration, NotedEntry, NotedMethod, NotedParts, erase_declaration}
 use Rattle.au_typing.specs.Trees.{erase_parts, erase_program}
-use Rattle.au_outcomes.specs.Faults.{IsDerived}
+use Rattle.au_accepted.specs.Faults.{IsDerived}
 use Rattle.au_closing.specs.Bodies.{BodyOf, body_at, body_in, body_of, body_of_parts, body_standing}
 use Rattle.au_closing.specs.Bodies.{declared_in, defining_index, is_method, method_body, noted_at}
 use Rattle.au_closing_laws.specs.Targets.{bounds_in, bounds_of}

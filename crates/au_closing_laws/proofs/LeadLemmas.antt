@@ -11,10 +11,10 @@ use Rattle.au_imports.specs.Good.{AllNamesAreGood}
 use Rattle.au_promises.specs.Fulfilled.{AllFulfil}
 use Rattle.au_rules.specs.Good.{AllDeclarationsAreGood}
 use Rattle.au_typing.specs.Trees.{NotedParts}
-use Rattle.au_outcomes.specs.Faults.{IsDerived}
-use Rattle.au_outcomes.specs.Accepted.{AreAcceptedAs}
-use Rattle.au_outcomes.specs.Programs.{program_modules}
-use Rattle.au_outcomes.specs.Trees.{ReadFile}
+use Rattle.au_accepted.specs.Faults.{IsDerived}
+use Rattle.au_accepted.specs.Accepted.{AreAcceptedAs}
+use Rattle.au_accepted.specs.Programs.{program_modules}
+use Rattle.au_accepted.specs.Trees.{ReadFile}
 use Rattle.au_graphs.specs.Reached.{Reached}
 use Rattle.au_closing.specs.Bodies.{BodyOf, body_of}
 use Rattle.au_closing.specs.Closes.{calls_of}

@@ -22,7 +22,7 @@ use Rattle.au_typing.specs.Called.{is_method, method_called}
 use Rattle.au_typing.specs.Written.{seen_at}
 use Rattle.au_typing.specs.Bodies.{generics_in}
 use Rattle.au_typing.specs.Trees.{NotedParts}
-use Rattle.au_outcomes.specs.Faults.{IsDerived}
+use Rattle.au_accepted.specs.Faults.{IsDerived}
 use Rattle.au_closing.specs.Bodies.{BodyOf, body_of}
 use Rattle.au_closing.specs.Leading as leading
 use Rattle.au_closing.specs.Leading.{Called, a_maker, called_of}

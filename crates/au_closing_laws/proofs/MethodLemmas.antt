@@ -49,7 +49,7 @@ use Rattle.au_classes.specs.Rows.{rows_of}
 use Rattle.au_rules.specs.Good.{AllDeclarationsAreGood}
 use Rattle.au_typing.specs.Written.{types_at}
 use Rattle.au_typing.specs.Trees.{NotedDeclaration, NotedMethod, NotedParts, erase_declaration, erase_method}
-use Rattle.au_outcomes.specs.Faults.{IsDerived}
+use Rattle.au_accepted.specs.Faults.{IsDerived}
 use Rattle.au_closing.specs.Bodies.{BodyOf, body_in, body_of, body_standing, defining_in, defining_index}
 use Rattle.au_closing.specs.Bodies.{is_method, method_body, noted_at}
 use Rattle.au_closing.specs.Leading.{kind_of, module_name}

@@ -26,7 +26,7 @@ use Rattle.au_typing.specs.Bodies.{GoodBody, body_scope, generics_in, outer_scop
 use Rattle.au_typing.specs.InScope.{fixed_variable, with_variable}
 use Rattle.au_typing.specs.Trees.{NotedParts}
 use Rattle.au_typing.proofs.Steps.{bind_ok}
-use Rattle.au_outcomes.specs.Faults.{IsDerived}
+use Rattle.au_accepted.specs.Faults.{IsDerived}
 use Rattle.au_closing.specs.Bodies.{BodyOf, body_of}
 use Rattle.au_closing_laws.specs.Calls.{IsGoodIn, outside_at, put_for}
 use Rattle.au_closing_laws.specs.Premises.{PutTypesStand}

@@ -33,7 +33,7 @@ use Rattle.au_typing.specs.Scopes.{Callable, Typed}
 use Rattle.au_typing.specs.Called.{callable, declared_callable, is_case, is_method, method_called, unconstrained}
 use Rattle.au_typing.specs.Written.{all_typed, meant_in}
 use Rattle.au_typing.specs.Trees.{NotedParts}
-use Rattle.au_outcomes.specs.Faults.{IsDerived}
+use Rattle.au_accepted.specs.Faults.{IsDerived}
 use Rattle.au_closed_trees.specs.TypeNames.{is_region}
 use Rattle.au_closing.specs.Bodies.{BodyOf, body_of}
 use Rattle.au_closing.specs.Leading as leading

@@ -1,6 +1,6 @@
-pub use Rattle.au_outcomes.specs.Accepted
-pub use Rattle.au_outcomes.specs.Programs
-pub use Rattle.au_outcomes.specs.Trees
+pub use Rattle.au_accepted.specs.Accepted
+pub use Rattle.au_accepted.specs.Programs
+pub use Rattle.au_accepted.specs.Trees
 pub mod Targets
 pub mod Sound
 pub mod Calls

@@ -14,7 +14,7 @@ ghost use Rattle.au_typing.specs.Trees.{NotedParts};
 ghost use Rattle.au_instances.specs.Tables.{IsTable};
 ghost use Rattle.au_modules.specs.Programs.{ModuleParts};
 ghost use Rattle.au_names.specs.declared.targets.Target.{Target as TargetSeen};
-ghost use Rattle.au_outcomes.specs.Faults.{IsDerived};
+ghost use Rattle.au_accepted.specs.Faults.{IsDerived};
 ghost use Rattle.au_promises.specs.Fulfilled.{AllFulfil};
 ghost use Rattle.au_closing_laws.specs.Premises.{Premises};
 ghost use Rattle.au_closing_laws.specs.Calls.{AreMeant, IsGoodIn, IsMeant, Suits, put_for};

@@ -22,25 +22,26 @@ use Rattle.au_memory.specs.Loans.{Types}
 use Rattle.au_typing.specs.Calls.{GoodCall, by_labels, each_is_named_once, in_order, labelled_types}
 use Rattle.au_typing.specs.Good.{AllGoodIn, AllGoodLabelled, HaveTypes, count_of, items_of, labels_of, shown}
 use Rattle.au_typing.specs.Good.{values_of}
-use Rattle.au_typing.specs.Lookups.{type_of_name}
-use Rattle.au_typing.specs.Notes.{Note, NotedArguments, NotedExpressions}
+use Rattle.au_typing.specs.Lookups.{parameters_in, type_of_name}
+use Rattle.au_typing.specs.Notes.{Note, NotedArguments, NotedExpressions, type_of}
 use Rattle.au_typing.specs.Scopes.{Scope, Typed}
 use Rattle.au_typing.proofs.Arguments.{labelled_fits, positional_fits}
 use Rattle.au_meaning.specs.Expressions.{labels}
 use Rattle.au_meaning.specs.Names as meaning
-use Rattle.au_meaning.specs.Views.{View}
+use Rattle.au_meaning.specs.Views.{Act, View, invokes, makes, ships}
 use Rattle.au_known_types.specs.Known.{ScopeIsKnown}
+use Rattle.au_known_types.specs.Laws.{ModesAreKnown}
 use Rattle.au_known_types.proofs.CallLemmas.{by_labels_well, call_known, in_order_well}
-use Rattle.au_known_types.proofs.NotedLemmas.{all_last, labelled_last}
+use Rattle.au_known_types.proofs.NotedLemmas.{all_last, labelled_last, type_known}
 use Rattle.au_judged_types.specs.Bounds.{parameters}
 use Rattle.au_safe_steps.specs.Orders.{AreApart, IsNone, IsReordered}
-use Rattle.au_running_lives.specs.Expressions.{AreOf, IsOf, NamedAreOf}
-use Rattle.au_running_lives.specs.Known.{Callables}
+use Rattle.au_running_lives.specs.Expressions.{AreOf, IsOf, NamedAreOf, Performs}
+use Rattle.au_running_lives.specs.Known.{AreActive, Callables, Calls, callees}
 use Rattle.au_running_lives.specs.Picking.{AreTypesUnder, IsTypeUnder}
-use Rattle.au_judged_bodies.specs.TypedRunsLaws.{CallsRun, kinds_labelled, kinds_of}
+use Rattle.au_judged_bodies.specs.TypedRunsLaws.{AreHanded, AreHandedLabelled, CallsRun, kinds_labelled, kinds_of}
 use Rattle.au_judged_bodies.specs.Rounds.{names_of}
 use Rattle.au_judged_bodies.proofs.OnceLemmas.{In, found_apart, once_reordered, self_is}
-use Rattle.au_judged_bodies.specs.Sights.{CallIsSeen, CallsAreSeen, kinds_taken}
+use Rattle.au_judged_bodies.specs.Sights.{Allows, AreHandedAs, CallIsSeen, CallsAreSeen, IsHandedAs, kinds_taken}
 
 -- ---- running types of arguments
 
@@ -357,24 +358,87 @@ labelled_so s z noted ls ps types e apart = by (each_is_named_once ls ps) refl e
         labels_apart =
             once_apart ls (λ name there. named_once ls ps is name (labels_there ls ps types e name there))
 
+-- ---- what is handed on
+
+module _ (sc : Scope) (may_hand : Meaning → Type 0) (Stands : Bindings → Type 0) where
+  -- running types of what may be handed on, in this scope
+  abbrev Handed : List Meaning → Type 0
+  Handed kinds = AreHandedAs sc.outside.heads (parameters_in sc) may_hand Stands kinds
+
+  abbrev OneHanded : Meaning → Type 0
+  OneHanded kind = IsHandedAs sc.outside.heads (parameters_in sc) may_hand Stands kind
+
+  module _ (knows : ScopeIsKnown sc) (s : Bindings) (z : ℕ) (stands : Stands s) where
+    handed_kinds : (es : NotedExpressions) → AllGoodIn sc es → ModesAreKnown sc (shown (items_of es))
+        → AreHanded may_hand es → Handed (kinds_of s z es)
+    handed_kinds no_expressions good modes handed = tt
+    handed_kinds (expressions e es) good modes handed = (
+      (s, z, sc.regions, type_of e, stands, type_known sc knows e good.0 modes.0, handed.0, refl),
+      handed_kinds es good.1 modes.1 handed.1,
+    )
+
+    handed_labelled : (es : NotedArguments) → AllGoodLabelled sc es → ModesAreKnown sc (shown (values_of es))
+        → AreHandedLabelled may_hand es → Handed (kinds_labelled s z es)
+    handed_labelled no_arguments good modes handed = tt
+    handed_labelled (arguments label e es) good modes handed = (
+      (s, z, sc.regions, type_of e, stands, type_known sc knows e good.0 modes.0, handed.0, refl),
+      handed_labelled es good.1 modes.1 handed.1,
+    )
+
+  handed_one : (name : Bytes) (names : List Bytes) (kinds : List Meaning) (t : Meaning) → Handed kinds
+      → IsTypeUnder name names kinds t → OneHanded t
+  handed_one name [] kinds t handed under = absurd under
+  handed_one name (n ∷ names) [] t handed under = absurd under
+  handed_one name (n ∷ names) (kind ∷ kinds) t handed (inl its) = subst OneHanded (sym its.1) handed.0
+  handed_one name (n ∷ names) (kind ∷ kinds) t handed (inr its) = handed_one name names kinds t handed.1 its.1
+
+  handed_under : (wanted names : List Bytes) (kinds ts : List Meaning) → Handed kinds
+      → AreTypesUnder wanted names kinds ts → Handed ts
+  handed_under [] names kinds [] handed under = tt
+  handed_under [] names kinds (t ∷ ts) handed under = absurd under
+  handed_under (name ∷ wanted) names kinds [] handed under = absurd under
+  handed_under (name ∷ wanted) names kinds (t ∷ ts) handed under =
+      (handed_one name names kinds t handed under.0, handed_under wanted names kinds ts handed under.1)
+
 -- ---- calls
 
 module _ (types : Types) (owner : ClosedType → Option (List ℕ)) {I K : Type 0} (see : View I Note (Unit {0}))
     (known : Callables I K) (active : ℕ → Bool) (s : Bindings) (z : ℕ) (names : ℕ → Meaning) (sc : Scope)
-    (scope : meaning.Scope) (given : Given) where
+    (scope : meaning.Scope) (given : Given) {E : Type 0} (calls : Calls K E) (key : K) (may_hand : Meaning → Type 0)
+    (Stands : Bindings → Type 0) (stands : Stands s)
+    (allows : Allows sc.outside.heads (parameters_in sc) may_hand Stands known calls key) where
+  abbrev reached : Callables I ((one : E) × (calls.from one ≡ key))
+  reached = callees known calls key
+
+  -- what may be called here may be called from this way
+  performs_allowed : (act : Act I) (kinds : List Meaning) (t : Meaning) → Handed sc may_hand Stands kinds
+      → Performs types owner see known active act kinds t → Performs types owner see reached active act kinds t
+  performs_allowed (invokes one) kinds t handed (to, of, takes, gives, tokens) =
+      let call = allows to (subst (Handed sc may_hand Stands) (sym takes) handed) in (
+        (call.0, call.1),
+        ap known.of call.2 ∙ of,
+        ap known.parameters call.2 ∙ takes,
+        ap known.result call.2 ∙ gives,
+        subst (λ (k : K). AreActive active (known.tokens k)) (sym call.2) tokens,
+      )
+  performs_allowed (makes of tag home) kinds t handed performs = performs
+  performs_allowed (ships prim born) kinds t handed performs = performs
+
   module _ (n : Node Note) (f : Placed Bytes) (c : Unit {0}) where
     call_runs : (es : NotedExpressions)
         (good : GoodCall sc n.note f.name (in_order (count_of es)) (shown (items_of es)))
-        → AllGoodIn sc es → CallIsSeen types owner see known active s z n.note f.name good.called good.ends
-        → AreOf types owner see known names z active scope es (kinds_of s z es)
-        → IsOf types owner see known names z active scope (call n f es c) (running s z n.note.of)
-    call_runs es good each sight args = (
+        → AllGoodIn sc es → Handed sc may_hand Stands (kinds_of s z es)
+        → CallIsSeen types owner see known active s z n.note f.name good.called good.ends
+        → AreOf types owner see reached names z active scope es (kinds_of s z es)
+        → IsOf types owner see reached names z active scope (call n f es c) (running s z n.note.of)
+    call_runs es good each handed sight args = (
       sight.one,
       kinds_taken s z good.ends good.called.parameters,
       sight.seen c,
-      subst (AreOf types owner see known names z active scope es) kinds args,
+      subst (AreOf types owner see reached names z active scope es) kinds args,
       as_many s z good.ends good.called.parameters ∙ ap length (sym sight.parameters),
-      sight.performs,
+      performs_allowed sight.one.act (kinds_taken s z good.ends good.called.parameters) (running s z n.note.of)
+          (subst (Handed sc may_hand Stands) kinds handed) sight.performs,
     )
       where
         kinds : kinds_of s z es ≡ kinds_taken s z good.ends good.called.parameters
@@ -388,15 +452,16 @@ module _ (types : Types) (owner : ClosedType → Option (List ℕ)) {I K : Type 
 
     named_runs : (es : NotedArguments)
         (good : GoodCall sc n.note f.name (by_labels (labels_of es)) (shown (values_of es)))
-        → AllGoodLabelled sc es → CallIsSeen types owner see known active s z n.note f.name good.called good.ends
-        → NamedAreOf types owner see known names z active scope es (kinds_labelled s z es)
-        → IsOf types owner see known names z active scope (named_call n f es c) (running s z n.note.of)
-    named_runs es good each sight args = (
+        → AllGoodLabelled sc es → Handed sc may_hand Stands (kinds_labelled s z es)
+        → CallIsSeen types owner see known active s z n.note f.name good.called good.ends
+        → NamedAreOf types owner see reached names z active scope es (kinds_labelled s z es)
+        → IsOf types owner see reached names z active scope (named_call n f es c) (running s z n.note.of)
+    named_runs es good each handed sight args = (
       sight.one,
       map (kind_taken s z good.ends) good.types,
       kinds_taken s z good.ends good.called.parameters,
       sight.seen c,
-      subst (NamedAreOf types owner see known names z active scope es) kinds args,
+      subst (NamedAreOf types owner see reached names z active scope es) kinds args,
       subst AreApart (sym (same_labels es)) labelled.apart,
       subst (λ (l : List Bytes). IsReordered sight.one.parameters l) (sym (same_labels es))
           (subst (λ (l : List Bytes). IsReordered l (labels_of es)) (sym sight.parameters) labelled.order),
@@ -404,7 +469,11 @@ module _ (types : Types) (owner : ClosedType → Option (List ℕ)) {I K : Type 
           (kinds_taken s z good.ends good.called.parameters)) (sym (same_labels es))
           (subst (λ (l : List Bytes). AreTypesUnder l (labels_of es) (map (kind_taken s z good.ends) good.types)
           (kinds_taken s z good.ends good.called.parameters)) (sym sight.parameters) labelled.under),
-      sight.performs,
+      performs_allowed sight.one.act (kinds_taken s z good.ends good.called.parameters) (running s z n.note.of)
+          (handed_under sc may_hand Stands (names_of good.called.parameters) (labels_of es)
+          (map (kind_taken s z good.ends) good.types) (kinds_taken s z good.ends good.called.parameters)
+          (subst (Handed sc may_hand Stands) kinds handed)
+          labelled.under) sight.performs,
     )
       where
         labelled : Labelled s z good.ends (labels_of es) good.called.parameters good.types
@@ -420,18 +489,19 @@ module _ (types : Types) (owner : ClosedType → Option (List ℕ)) {I K : Type 
             (subst (λ r. HaveTypes r good.types (values_of es)) same fits.arguments_fit)
 
   pub seen_run : ScopeIsKnown sc → CallsAreSeen types owner see known active s z sc
-      → CallsRun types owner see known names active sc scope s given z
+      → CallsRun types owner see reached may_hand names active sc scope s given z
   seen_run knows seen = record {
-    in_order = λ n f es c all wanted args.
-        call_runs n f c es all.0 all.1
-        (seen n.note f.name (in_order (count_of es)) (shown (items_of es)) all.0 wanted
-        (call_known sc n.note f.name (in_order (count_of es)) (shown (items_of es)) all.0
+    in_order = λ n f es c all wanted handed args.
+        let its = call_known sc n.note f.name (in_order (count_of es)) (shown (items_of es)) all.0
         (in_order_well sc (parameters all.0.called.generics) (count_of es))
-        (knows.outside.takes f.name all.0.called all.0.is_called) wanted (all_last sc knows es all.1))) args;
-    by_labels = λ n f es c all wanted args.
-        named_runs n f c es all.0 all.1
-        (seen n.note f.name (by_labels (labels_of es)) (shown (values_of es)) all.0 wanted
-        (call_known sc n.note f.name (by_labels (labels_of es)) (shown (values_of es)) all.0
+        (knows.outside.takes f.name all.0.called all.0.is_called) wanted (all_last sc knows es all.1) in
+        call_runs n f c es all.0 all.1 (handed_kinds sc may_hand Stands knows s z stands es all.1 its.modes handed)
+        (seen n.note f.name (in_order (count_of es)) (shown (items_of es)) all.0 wanted its) args;
+    by_labels = λ n f es c all wanted handed args.
+        let its = call_known sc n.note f.name (by_labels (labels_of es)) (shown (values_of es)) all.0
         (by_labels_well sc (parameters all.0.called.generics) (labels_of es))
-        (knows.outside.takes f.name all.0.called all.0.is_called) wanted (labelled_last sc knows es all.1))) args;
+        (knows.outside.takes f.name all.0.called all.0.is_called) wanted (labelled_last sc knows es all.1) in
+        named_runs n f c es all.0 all.1
+        (handed_labelled sc may_hand Stands knows s z stands es all.1 its.modes handed)
+        (seen n.note f.name (by_labels (labels_of es)) (shown (values_of es)) all.0 wanted its) args;
   }

@@ -159,9 +159,9 @@ module _ (types : Types) {I : Type 0} (see : View I Note (Unit {0})) (given : Gi
     pub fields : (k : ℕ) (one : Case) → slice_get cases k ≡ Some one → AreApart (names_of one.fields)
 
 module _ (types : Types) (owner : ClosedType → Option (List ℕ)) {I K : Type 0} (see : View I Note (Unit {0}))
-    (known : Callables I K) (given : Given) (Stands : Bindings → Type 0) (result : Meaning)
+    (known : Callables I K) (may_hand : Meaning → Type 0) (given : Given) (Stands : Bindings → Type 0) (result : Meaning)
     (active : ℕ → Bool) (number : ℕ) (sc : Scope) (scope : meaning.Scope) (s : Bindings) (names : ℕ → Meaning)
-    (p : PlaceFits types owner see known given Stands result active number sc scope s names) where
+    (p : PlaceFits types owner see known may_hand given Stands result active number sc scope s names) where
   abbrev Tells : Note → Meaning → List Case → Type 0
   Tells n t cases = ToldFits types see given active sc s n t cases
 

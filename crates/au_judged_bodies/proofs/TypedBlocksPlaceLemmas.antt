@@ -38,6 +38,7 @@ use Rattle.au_running_lives.specs.Expressions.{IsOf}
 use Rattle.au_running_lives.specs.Known.{Callables, InScope, with_token}
 use Rattle.au_running_lives.specs.Lives.{put}
 use Rattle.au_running_lives.specs.Blocks.{IsWholeOf}
+use Rattle.au_running_lives.specs.Held.{Permits}
 use Rattle.au_judged_bodies.specs.Frames.{AreUsable, FrameFits, IsUsable, VariableIsThere}
 use Rattle.au_judged_bodies.specs.TypedRunsLaws.{Keeps}
 use Rattle.au_judged_bodies.proofs.TypedRunsExpressionLemmas.{runs}
@@ -126,10 +127,10 @@ scope_opened region sc scope =
     }
 
 module _ (types : Types) (owner : ClosedType → Option (List ℕ)) {I K : Type 0} (see : View I Note (Unit {0}))
-    (known : Callables I K) (given : Given) (Stands : Bindings → Type 0) (result : Meaning) where
+    (known : Callables I K) (may_hand : Meaning → Type 0) (given : Given) (Stands : Bindings → Type 0) (result : Meaning) where
   abbrev pub Place : (ℕ → Bool) → ℕ → Scope → meaning.Scope → Bindings → (ℕ → Meaning) → Type 0
   Place active number sc scope s names =
-      PlaceFits types owner see known given Stands result active number sc scope s names
+      PlaceFits types owner see known may_hand given Stands result active number sc scope s names
 
   stands_later : (names : ℕ → Meaning) (number later : ℕ) (scope : meaning.Scope) (s : Bindings) (name : Bytes)
       (t : Meaning) → number ≤ later → VariableStands names number scope s given name t
@@ -159,7 +160,7 @@ module _ (types : Types) (owner : ClosedType → Option (List ℕ)) {I K : Type 
   }
 
   module _ (active : ℕ → Bool) (number : ℕ) (sc : Scope) (scope : meaning.Scope) (s : Bindings) (names : ℕ → Meaning)
-      (p : PlaceFits types owner see known given Stands result active number sc scope s names) where
+      (p : PlaceFits types owner see known may_hand given Stands result active number sc scope s names) where
     there_at : (z : ℕ) (name : Bytes) (t : Meaning) → VariableStands names number scope s given name t
         → VariableIsThere types see names (with_token z active) sc scope s given z name t
     there_at z name t its = record {
@@ -187,17 +188,17 @@ module _ (types : Types) (owner : ClosedType → Option (List ℕ)) {I K : Type 
       within = λ name is. more_usable active z (type_for (value_of name s) name) (p.within name is);
     }
 
-    pub whole_at : (e : NotedExpression) → AllGood sc e → ModeIsKnownIn sc (mode_of e) → Keeps see scope e → (z : ℕ)
+    pub whole_at : (e : NotedExpression) → AllGood sc e → ModeIsKnownIn sc (mode_of e) → Keeps see may_hand scope e → (z : ℕ)
         → IsOf types owner see known names z (with_token z active) scope e (running s z (type_of e))
     whole_at e good wanted keeps z =
-        runs types owner see known names (with_token z active) sc scope s given z (frame_at z)
+        runs types owner see known may_hand names (with_token z active) sc scope s given z (frame_at z)
         (p.round.calls names (with_token z active) sc scope s z refl refl p.good (frame_at z)) e good wanted keeps
 
     -- of a type without `~`, it is of the same running type in each whole expression
-    pub whole_of : (loose : ℕ → Bool) (e : NotedExpression) (t : Meaning) → AllGood sc e → ModeIsKnownIn sc (mode_of e)
-        → Keeps see scope e → type_of e ≡ t → is_lasting t ≡ true
-        → IsWholeOf types owner see known result loose active names scope e (running s 0 t)
-    whole_of loose e t good wanted keeps same lasts z off =
+    pub whole_of : (loose : ℕ → Bool) {V W : Type 0} (permits : Permits V W) (key : V) (e : NotedExpression)
+        (t : Meaning) → AllGood sc e → ModeIsKnownIn sc (mode_of e) → Keeps see may_hand scope e → type_of e ≡ t → is_lasting t ≡ true
+        → IsWholeOf types owner see known result loose permits key active names scope e (running s 0 t)
+    whole_of loose permits key e t good wanted keeps same lasts z off =
         subst (λ u. IsOf types owner see known names z (with_token z active) scope e u)
         (ap (running s z) same ∙ type_lasts s z 0 t lasts) (whole_at e good wanted keeps z)
 

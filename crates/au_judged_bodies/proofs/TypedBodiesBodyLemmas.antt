@@ -40,10 +40,10 @@ kept (Ok sc) = Some sc
 kept (Err fault) = None
 
 module _ (types : Types) (owner : ClosedType → Option (List ℕ)) {I K : Type 0} (see : View I Note (Unit {0}))
-    (known : Callables I K) (given : Given) (Stands : Bindings → Type 0) where
+    (known : Callables I K) (may_hand : Meaning → Type 0) (given : Given) (Stands : Bindings → Type 0) where
   abbrev Place : Meaning → (ℕ → Bool) → ℕ → Scope → meaning.Scope → Bindings → (ℕ → Meaning) → Type 0
   Place result active number sc scope s names =
-      PlaceFits types owner see known given Stands result active number sc scope s names
+      PlaceFits types owner see known may_hand given Stands result active number sc scope s names
 
   -- a scope that differs from another in its variables alone gives written types what that gives
   abbrev WritesAlike : Scope → Scope → Type 0
@@ -72,7 +72,7 @@ module _ (types : Types) (owner : ClosedType → Option (List ℕ)) {I K : Type 
           (meaning.with_parameters n (fields_given given rest its.ofs)
           (meaning.with_name p.name.name number (Some (closed_under given of)) scope)) s
           (with_types (suc number) (kinds_given s its.ofs) (put number (running s 0 of) names))) same
-          (place_later types owner see known given Stands result active (suc number + length its.ofs)
+          (place_later types owner see known may_hand given Stands result active (suc number + length its.ofs)
           (number + suc (length its.ofs)) last
           (meaning.with_parameters (suc number) (fields_given given rest its.ofs)
           (meaning.with_name p.name.name number (Some (closed_under given of)) scope)) s
@@ -91,7 +91,7 @@ module _ (types : Types) (owner : ClosedType → Option (List ℕ)) {I K : Type 
           ofs = [];
           are = tt;
           alike = alike;
-          place = place_later types owner see known given Stands result active number (number + 0) cur scope s names
+          place = place_later types owner see known may_hand given Stands result active number (number + 0) cur scope s names
               (omega arith) p;
         })
     added (q ∷ rest) number cur scope names last alike p e =
@@ -99,7 +99,7 @@ module _ (types : Types) (owner : ClosedType → Option (List ℕ)) {I K : Type 
         (λ of is. added rest (suc number) (with_variable (fixed_variable q.name.name of) cur)
         (meaning.with_name q.name.name number (Some (closed_under given of)) scope) (put number (running s 0 of) names)
         last alike
-        (place_with types owner see known given Stands result active number cur scope s names p (suc number)
+        (place_with types owner see known may_hand given Stands result active number cur scope s names p (suc number)
         (fixed_variable q.name.name of) (Some (closed_under given of)) (running s 0 of) (omega arith)
         (written_known cur q.of of is).0 (written_known cur q.of of is).1 refl
         (λ z. type_lasts s 0 z of (written_known cur q.of of is).1)))
@@ -139,12 +139,12 @@ module _ (types : Types) (owner : ClosedType → Option (List ℕ)) {I K : Type 
 
   pub body_begins : (outside : Outside) (generics : List (Constrained Bytes)) (header : Header Bytes) (scope : Scope)
       → body_scope outside generics header ≡ Ok scope → OutsideIsKnown outside
-      → RoundFits types owner see known outside (generics_in outside generics) given Stands
+      → RoundFits types owner see known may_hand outside (generics_in outside generics) given Stands
       → (active : ℕ → Bool) (first : ℕ) (s : Bindings) (names : ℕ → Meaning) → Stands s
       → ((name : List ℕ) → IsRegionName [] (parameters (generics_in outside generics)) name
       → InScope active (region_for (value_of name s) name))
       → TypesAreUsable active (parameters (generics_in outside generics)) s
-      → BodyBegins types owner see known given Stands active first s names
+      → BodyBegins types owner see known may_hand given Stands active first s names
       (outer_scope outside (generics_in outside generics)) header.parameters scope
   body_begins outside generics header scope formed out round active first s names stands regions within =
       by (with_parameters header.parameters (outer_scope outside (generics_in outside generics))) refl formed
@@ -176,12 +176,12 @@ module _ (types : Types) (owner : ClosedType → Option (List ℕ)) {I K : Type 
           → Added unit active first (outer_scope outside (generics_in outside generics)) [] s names header.parameters sc
           → (o : Noting Meaning) → written_type sc header.result ≡ o
           → (o >>= λ of. Ok (record sc { result = of })) ≡ Ok scope
-          → BodyBegins types owner see known given Stands active first s names
+          → BodyBegins types owner see known may_hand given Stands active first s names
           (outer_scope outside (generics_in outside generics)) header.parameters scope
       finish sc its (Err fault) is e = absurd (none-some scope (ap kept e))
       finish sc its (Ok of) is e =
           let whole = written_known sc header.result of is in
-          subst (BodyBegins types owner see known given Stands active first s names
+          subst (BodyBegins types owner see known may_hand given Stands active first s names
           (outer_scope outside (generics_in outside generics)) header.parameters)
           (same_Some (record sc { result = of }) scope (ap kept e))
           (record {
@@ -195,7 +195,7 @@ module _ (types : Types) (owner : ClosedType → Option (List ℕ)) {I K : Type 
       by : (o : Noting Scope)
           → with_parameters header.parameters (outer_scope outside (generics_in outside generics)) ≡ o
           → (o >>= λ sc. with_result header.result sc) ≡ Ok scope
-          → BodyBegins types owner see known given Stands active first s names
+          → BodyBegins types owner see known may_hand given Stands active first s names
           (outer_scope outside (generics_in outside generics)) header.parameters scope
       by (Err fault) is e = absurd (none-some scope (ap kept e))
       by (Ok sc) is e =

@@ -123,10 +123,10 @@ behind_is (mean.parameter name) target e = absurd (none-some target e)
 behind_is (mean.named at args) target e = absurd (none-some target e)
 
 module _ (types : Types) (owner : ClosedType → Option (List ℕ)) {I K : Type 0} (see : View I Note (Unit {0}))
-    (known : Callables I K) (names : ℕ → Meaning) (active : ℕ → Bool) (sc : Scope) (scope : meaning.Scope)
+    (known : Callables I K) (may_hand : Meaning → Type 0) (names : ℕ → Meaning) (active : ℕ → Bool) (sc : Scope) (scope : meaning.Scope)
     (s : Bindings) (given : Given) (z : ℕ)
     (fits : FrameFits types see names active sc scope s given z)
-    (calls : CallsRun types owner see known names active sc scope s given z) where
+    (calls : CallsRun types owner see known may_hand names active sc scope s given z) where
   abbrev run : Meaning → Meaning
   run t = running s z t
 
@@ -496,7 +496,7 @@ module _ (types : Types) (owner : ClosedType → Option (List ℕ)) {I K : Type 
   -- ---- expressions
 
   mutual
-    pub runs : (e : NotedExpression) → AllGood sc e → ModeIsKnownIn sc (mode_of e) → Keeps see scope e
+    pub runs : (e : NotedExpression) → AllGood sc e → ModeIsKnownIn sc (mode_of e) → Keeps see may_hand scope e
         → Of e (run (type_of e))
     runs (number n l) good wanted keeps =
         (_, noted_kind n.note _ good.1.0, good.1.1, ap run good.1.0)
@@ -542,22 +542,22 @@ module _ (types : Types) (owner : ClosedType → Option (List ℕ)) {I K : Type 
           keeps.0,
         )
     runs (call n f es c) good wanted keeps =
-        calls.in_order n f es c good wanted
+        calls.in_order n f es c good wanted keeps.0
         (all_run es good.1
         (call_known sc n.note f.name (in_order (count_of es)) (shown (items_of es)) good.0
         (in_order_well sc (parameters good.0.called.generics) (count_of es))
         (fits.known.outside.takes f.name good.0.called good.0.is_called) wanted
-        (all_last sc fits.known es good.1)).modes keeps)
+        (all_last sc fits.known es good.1)).modes keeps.1)
     runs (named_call n f es c) good wanted keeps =
-        calls.by_labels n f es c good wanted
+        calls.by_labels n f es c good wanted keeps.0
         (labelled_run es good.1
         (call_known sc n.note f.name (by_labels (labels_of es)) (shown (values_of es)) good.0
         (by_labels_well sc (parameters good.0.called.generics) (labels_of es))
         (fits.known.outside.takes f.name good.0.called good.0.is_called) wanted
-        (labelled_last sc fits.known es good.1)).modes keeps)
+        (labelled_last sc fits.known es good.1)).modes keeps.1)
 
     all_run : (es : NotedExpressions) → AllGoodIn sc es → ModesAreKnown sc (shown (items_of es))
-        → KeepsIn see scope es → AreOf types owner see known names z active scope es (kinds_of s z es)
+        → KeepsIn see may_hand scope es → AreOf types owner see known names z active scope es (kinds_of s z es)
     all_run no_expressions good modes keeps = refl
     all_run (expressions e rest) good modes keeps = (
       run (type_of e),
@@ -568,7 +568,7 @@ module _ (types : Types) (owner : ClosedType → Option (List ℕ)) {I K : Type 
     )
 
     labelled_run : (es : NotedArguments) → AllGoodLabelled sc es → ModesAreKnown sc (shown (values_of es))
-        → KeepsLabelled see scope es
+        → KeepsLabelled see may_hand scope es
         → NamedAreOf types owner see known names z active scope es (kinds_labelled s z es)
     labelled_run no_arguments good modes keeps = refl
     labelled_run (arguments label e rest) good modes keeps = (

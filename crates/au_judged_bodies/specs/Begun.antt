@@ -43,14 +43,14 @@ abbrev pub kinds_given : Bindings → List Meaning → List Meaning
 kinds_given s ofs = map (running s 0) ofs
 
 module _ (types : Types) (owner : ClosedType → Option (List ℕ)) {I K : Type 0} (see : View I Note (Unit {0}))
-    (known : Callables I K) (given : Given) (Stands : Bindings → Type 0) where
+    (known : Callables I K) (may_hand : Meaning → Type 0) (given : Given) (Stands : Bindings → Type 0) where
   -- A body begins with its parameters, as the first names of the frame, of the running types of what is
   -- written for them.
   pub record BodyBegins (active : ℕ → Bool) (first : ℕ) (s : Bindings) (names : ℕ → Meaning) (outer : Scope)
       (params : List (Labelled Bytes)) (scope : Scope) : Type 0 where
     pub ofs : List Meaning
     pub are : AreMeant outer params ofs
-    pub place : PlaceFits types owner see known given Stands (running s 0 scope.result) active
+    pub place : PlaceFits types owner see known may_hand given Stands (running s 0 scope.result) active
         (first + length ofs) scope
         (meaning.with_parameters first (fields_given given params ofs) []) s
         (with_types first (kinds_given s ofs) names)
@@ -61,7 +61,7 @@ module _ (types : Types) (owner : ClosedType → Option (List ℕ)) {I K : Type 
   BodiesBegin =
       (outside : Outside) (generics : List (Constrained Bytes)) (header : Header Bytes) (scope : Scope)
       → body_scope outside generics header ≡ Ok scope → OutsideIsKnown outside
-      → RoundFits types owner see known outside (generics_in outside generics) given Stands
+      → RoundFits types owner see known may_hand outside (generics_in outside generics) given Stands
       → (active : ℕ → Bool) (first : ℕ) (s : Bindings) (names : ℕ → Meaning) → Stands s
       → ((name : List ℕ) → IsRegionName [] (parameters (generics_in outside generics)) name
       → InScope active (region_for (value_of name s) name))

@@ -67,8 +67,8 @@ module _ (types : Types) {I : Type 0} (see : View I Note (Unit {0})) (outside : 
 -- What is known round a body, by the rules of typing, agrees with what is known where it runs: whichever
 -- good bindings stand for its type parameters and for the regions of the borrow statements that are open.
 pub record RoundFits (types : Types) (owner : ClosedType → Option (List ℕ)) {I K : Type 0}
-    (see : View I Note (Unit {0})) (known : Callables I K) (outside : Outside) (generics : List Bounded)
-    (given : Given)
+    (see : View I Note (Unit {0})) (known : Callables I K) (may_hand : Meaning → Type 0) (outside : Outside)
+    (generics : List Bounded) (given : Given)
     (Stands : Bindings → Type 0) : Type 0 where
   pub noted : (n : Note) → see.type_of n ≡ Some (closed_under given n.of)
   pub readers : (t : Meaning) (region : Region) → types.is_free (reads t region) ≡ true
@@ -99,7 +99,7 @@ pub record RoundFits (types : Types) (owner : ClosedType → Option (List ℕ)) 
       (z : ℕ)
       → sc.outside ≡ outside → sc.generics ≡ generics → Stands s
       → FrameFits types see names active sc scope s given z
-      → CallsRun types owner see known names active sc scope s given z
+      → CallsRun types owner see known may_hand names active sc scope s given z
 
 -- A variable in scope is there, under a number below this one, and has the running type of its own.
 pub record VariableStands (names : ℕ → Meaning) (number : ℕ) (scope : meaning.Scope) (s : Bindings)
@@ -114,10 +114,11 @@ pub record VariableStands (names : ℕ → Meaning) (number : ℕ) (scope : mean
 -- A running frame fits the scope at a place: the names that are in scope, the regions that are open, and
 -- the type that the body returns.
 pub record PlaceFits (types : Types) (owner : ClosedType → Option (List ℕ)) {I K : Type 0}
-    (see : View I Note (Unit {0})) (known : Callables I K) (given : Given) (Stands : Bindings → Type 0)
+    (see : View I Note (Unit {0})) (known : Callables I K) (may_hand : Meaning → Type 0) (given : Given)
+    (Stands : Bindings → Type 0)
     (result : Meaning) (active : ℕ → Bool) (number : ℕ) (sc : Scope) (scope : meaning.Scope) (s : Bindings)
     (names : ℕ → Meaning) : Type 0 where
-  pub round : RoundFits types owner see known sc.outside sc.generics given Stands
+  pub round : RoundFits types owner see known may_hand sc.outside sc.generics given Stands
   pub knows : ScopeIsKnown sc
   pub good : Stands s
   pub variables : (name : Bytes) (v : Variable) → variable_of sc name ≡ Some v

@@ -33,8 +33,20 @@ module _ {I : Type 0} (see : View I Note (Unit {0})) (scope : meaning.Scope) whe
   IsKeptBy (computes op) b = Unit {0}
   IsKeptBy (compares op) b = Unit {0}
 
+module _ (may_hand : Meaning → Type 0) where
+  -- arguments are of types that may be handed on
+  abbrev pub AreHanded : NotedExpressions → Type 0
+  AreHanded no_expressions = Unit {0}
+  AreHanded (expressions e es) = may_hand (type_of e) × AreHanded es
+
+  abbrev pub AreHandedLabelled : NotedArguments → Type 0
+  AreHandedLabelled no_arguments = Unit {0}
+  AreHandedLabelled (arguments label e es) = may_hand (type_of e) × AreHandedLabelled es
+
+module _ {I : Type 0} (see : View I Note (Unit {0})) (may_hand : Meaning → Type 0) (scope : meaning.Scope) where
   abbrev mutual
-    -- so it is all through an expression, and so are the branches of conditional ones
+    -- So it is all through an expression, and so are the branches of conditional ones; and the arguments of
+    -- its calls are of types that may be handed on.
     pub Keeps : NotedExpression → Type 0
     Keeps (number n l) = Unit {0}
     Keeps (negative n l) = Unit {0}
@@ -43,13 +55,13 @@ module _ {I : Type 0} (see : View I Note (Unit {0})) (scope : meaning.Scope) whe
     Keeps (nil n) = Unit {0}
     Keeps (path n x fields) = Unit {0}
     Keeps (arrow n x fields) = Unit {0}
-    Keeps (call n f es c) = KeepsIn es
-    Keeps (named_call n f es c) = KeepsLabelled es
+    Keeps (call n f es c) = AreHanded may_hand es × KeepsIn es
+    Keeps (named_call n f es c) = AreHandedLabelled may_hand es × KeepsLabelled es
     Keeps (parenthesized n e) = Keeps e
     Keeps (dereference n e) = Keeps e
     Keeps (borrow n m x) = Unit {0}
     Keeps (borrow_part n x fields) = Unit {0}
-    Keeps (binary n op a b) = IsKeptBy (operation_of op) b × Keeps a × Keeps b
+    Keeps (binary n op a b) = IsKeptBy see scope (operation_of op) b × Keeps a × Keeps b
     Keeps (negation n e) = Keeps e
     Keeps (typed n e t) = Keeps e
     Keeps (choice n c a b) =
@@ -75,17 +87,17 @@ module _ (s : Bindings) (z : ℕ) where
       running s z (type_of e) ∷ kinds_labelled es
 
 module _ (types : Types) (owner : ClosedType → Option (List ℕ)) {I K : Type 0} (see : View I Note (Unit {0}))
-    (known : Callables I K) (names : ℕ → Meaning) (active : ℕ → Bool) (sc : Scope) (scope : meaning.Scope)
-    (s : Bindings) (given : Given) (z : ℕ) where
-  -- Good calls run where their arguments do.
+    (known : Callables I K) (may_hand : Meaning → Type 0) (names : ℕ → Meaning) (active : ℕ → Bool) (sc : Scope)
+    (scope : meaning.Scope) (s : Bindings) (given : Given) (z : ℕ) where
+  -- Good calls run where their arguments do, if these are of types that may be handed on.
   pub record CallsRun : Type 0 where
     pub in_order : (n : Node Note) (f : Placed Bytes) (es : NotedExpressions) (c : Unit {0})
-        → AllGood sc (call n f es c) → ModeIsKnownIn sc n.note.mode
+        → AllGood sc (call n f es c) → ModeIsKnownIn sc n.note.mode → AreHanded may_hand es
         → AreOf types owner see known names z active scope es (kinds_of s z es)
         → IsOf types owner see known names z active scope (call n f es c)
         (running s z n.note.of)
     pub by_labels : (n : Node Note) (f : Placed Bytes) (es : NotedArguments) (c : Unit {0})
-        → AllGood sc (named_call n f es c) → ModeIsKnownIn sc n.note.mode
+        → AllGood sc (named_call n f es c) → ModeIsKnownIn sc n.note.mode → AreHandedLabelled may_hand es
         → NamedAreOf types owner see known names z active scope es (kinds_labelled s z es)
         → IsOf types owner see known names z active scope (named_call n f es c)
         (running s z n.note.of)
@@ -94,5 +106,5 @@ module _ (types : Types) (owner : ClosedType → Option (List ℕ)) {I K : Type 
   abbrev pub ExpressionsRun : Type 0
   ExpressionsRun =
       FrameFits types see names active sc scope s given z → CallsRun → (e : NotedExpression) → AllGood sc e
-      → ModeIsKnownIn sc (mode_of e) → Keeps see scope e
+      → ModeIsKnownIn sc (mode_of e) → Keeps see may_hand scope e
       → IsOf types owner see known names z active scope e (running s z (type_of e))

@@ -9,13 +9,15 @@ ghost use Rattle.au_type_texts.specs.Types.{ClosedType};
 ghost use Rattle.au_memory.specs.Loans.{Types};
 ghost use Rattle.au_typing.specs.Notes.{Note};
 ghost use Rattle.au_meaning.specs.Views.{View};
+ghost use Rattle.au_running_lives.specs.Held.{IsPermitted, Permits};
 ghost use Rattle.au_running_lives.specs.Known.{Callables};
 ghost use Rattle.au_judged_bodies.specs.StandingTypesStanding.{StandsFor};
 ghost use Rattle.au_judged_bodies.specs.Begun.{BodiesBegin};
 
 /// The frame of a body fits its scope as it begins.
-pub fn bodies_begin<I, K>()
+pub fn bodies_begin<I, K, U, H>()
     ensures { (types : Types) (owner : ClosedType → Option (List ℕ)) (see : View I Note (Unit {0}))
-        (known : Callables I K) (heads : List (DeclAt × Head)) (params : List Parameter) (given : Given)
-        → BodiesBegin types owner see known given (StandsFor heads params given) }
+        (known : Callables I K) (handed : Permits U H) (from : U) (heads : List (DeclAt × Head))
+        (params : List Parameter) (given : Given)
+        → BodiesBegin types owner see known (IsPermitted handed from) given (StandsFor heads params given) }
 {}

@@ -47,17 +47,21 @@ use Rattle.au_judged_bodies.specs.Sights.{CallIsSeen}
 use Rattle.au_judged_bodies.proofs.ArgumentLemmas.{seen_run}
 use Rattle.au_judged_bodies.proofs.MakerLemmas.{maker_seen}
 use Rattle.au_judged_bodies.specs.Functions.{BodyRuns, IsDeclaredWell}
-use Rattle.au_judged_bodies.specs.Keys.{ConstraintsHold, ways}
+use Rattle.au_judged_bodies.specs.Keys.{ConstraintsHold, Key, ways}
+use Rattle.au_judged_bodies.specs.Known.{Calls, callees}
 use Rattle.au_judged_bodies.proofs.FunctionLemmas.{function_seen}
 use Rattle.au_judged_programs.proofs.HoldLemmas.{constraint_wanted, held_here, holds_run, known_holds}
 use Rattle.au_judged_programs.specs.CalledBodiesBodies.{FunctionIsThere, is_function}
 use Rattle.au_judged_programs.proofs.CalledBodiesBodyLemmas.{function_there}
+use Rattle.au_judged_programs.specs.RoundProgramsBodies.{AllowsHere, AreGoodHere}
 use Rattle.au_judged_programs.specs.Programs.{OthersAreSeen, ProgramFits, has_headers, is_class}
 
 module _ (program : List ModuleParts) (trees : List NotedParts) (place : ℕ) (generics : List Bounded) (given : Given)
     (fits : ProgramFits program trees) (others : OthersAreSeen program trees place generics given)
     (names : ℕ → Meaning) (active : ℕ → Bool) (scope : meaning.Scope) (s : Bindings) (z : ℕ)
-    (stands : StandsFor (heads_of program) (parameters generics) given s) (holds : ConstraintsHold program generics s) where
+    (stands : StandsFor (heads_of program) (parameters generics) given s) (holds : ConstraintsHold program generics s)
+    {E : Type 0} (calls : Calls (Key program trees) E) (key : Key program trees) (may_hand : Meaning → Type 0)
+    (allows : AllowsHere program trees place generics given (ways program trees) calls key may_hand) where
   abbrev Frame : Scope → Type 0
   Frame sc =
       FrameFits (types_of program) (view_under program trees place (parameters generics) given) names active sc scope s
@@ -66,7 +70,7 @@ module _ (program : List ModuleParts) (trees : List NotedParts) (place : ℕ) (g
   abbrev Runs : Scope → Type 0
   Runs sc =
       CallsRun (types_of program) (owner_of program) (view_under program trees place (parameters generics) given)
-      (ways program trees) names active sc scope s given z
+      (callees (ways program trees) calls key) may_hand names active sc scope s given z
 
   module _ (result : Meaning) (regions : List Bytes) (variables : List Variable) where
     abbrev here : Scope
@@ -189,22 +193,25 @@ module _ (program : List ModuleParts) (trees : List NotedParts) (place : ℕ) (g
       here_run =
           seen_run (types_of program) (owner_of program)
           (view_under program trees place (parameters generics) given) (ways program trees) active s z names here scope given
-          frame.known
+          calls key may_hand (AreGoodHere program trees place generics given) (stands, holds) allows frame.known
           (λ note name takes args good mode known. call_seen note name takes args good mode known)
 
 pub all_run : (program : List ModuleParts) (trees : List NotedParts) (place : ℕ) (generics : List Bounded) (given : Given)
+    {E : Type 0} (calls : Calls (Key program trees) E) (key : Key program trees) (may_hand : Meaning → Type 0)
     → ProgramFits program trees → OthersAreSeen program trees place generics given
+    → AllowsHere program trees place generics given (ways program trees) calls key may_hand
     → (names : ℕ → Meaning) (active : ℕ → Bool) (sc : Scope) (scope : meaning.Scope) (s : Bindings) (z : ℕ)
     → sc.outside ≡ outside_of program place Body → sc.generics ≡ generics
     → StandsFor (heads_of program) (parameters generics) given s → ConstraintsHold program generics s
     → FrameFits (types_of program) (view_under program trees place (parameters generics) given) names active sc scope s
     given z
     → CallsRun (types_of program) (owner_of program) (view_under program trees place (parameters generics) given)
-    (ways program trees) names active sc scope s given z
-all_run program trees place generics given fits others names active sc scope s z outside over stands holds frame =
+    (callees (ways program trees) calls key) may_hand names active sc scope s given z
+all_run program trees place generics given calls key may_hand fits others allows names active sc scope s z outside over stands holds frame =
     subst (λ (gs : List Bounded). Goes (in_scope sc.outside gs)) (sym over)
     (subst (λ (o : Outside). Goes (in_scope o generics)) (sym outside)
-    (λ f. here_run program trees place generics given fits others names active scope s z stands holds sc.result sc.regions
+    (λ f. here_run program trees place generics given fits others names active scope s z stands holds calls key may_hand allows
+    sc.result sc.regions
     sc.variables f)) frame
   where
     in_scope : Outside → List Bounded → Scope
@@ -217,5 +224,7 @@ all_run program trees place generics given fits others names active sc scope s z
     }
 
     Goes : Scope → Type 0
-    Goes x = Frame program trees place generics given fits others names active scope s z stands holds x
-        → Runs program trees place generics given fits others names active scope s z stands holds x
+    Goes x = Frame program trees place generics given fits others names active scope s z stands holds calls key may_hand
+        allows x
+        → Runs program trees place generics given fits others names active scope s z stands holds calls key may_hand
+        allows x

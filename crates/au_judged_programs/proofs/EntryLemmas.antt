@@ -28,19 +28,19 @@ use Rattle.au_judged_bodies.specs.Entries.{form_of, is_exit, is_root, root_in}
 use Rattle.au_judged_bodies.specs.Instances.{Instance}
 use Rattle.au_meaning.specs.Meanings.{parameters_of}
 use Rattle.au_judged_bodies.specs.Generic.{field_seen, function_under, generic_functions}
+use Rattle.au_judged_bodies.specs.Held.{Permits}
 use Rattle.au_judged_bodies.specs.StandingTypesStanding.{StandsFor}
 use Rattle.au_owners.specs.Owners.{owner_of}
 use Rattle.au_judged_programs.specs.CheckedChecked.{IsChecked}
-use Rattle.au_judged_programs.specs.Judged.{CallsRunInBodies}
 use Rattle.au_judged_bodies.specs.Frames.{TypesAreUsable}
 use Rattle.au_judged_bodies.specs.Keys.{Key, meant_in_body, meant_or_unit, ways, written_running}
 use Rattle.au_judged_bodies.specs.Tables.{has_text, root_text, types_of}
 use Rattle.au_safe_steps.specs.Beginning.{IsExitOf}
 use Rattle.au_sound_calls.specs.Sound.{IsHomeOf}
 use Rattle.au_sound.specs.Runs.{IsEntry, TakesRoot}
-use Rattle.au_judged_programs.proofs.RunLemmas.{runs_well_seen}
-use Rattle.au_judged_programs.proofs.SoundEntriesCallLemmas.{calls_of_programs}
-use Rattle.au_judged_programs.specs.Entries.{EntriesRunWell, IsEntryHere}
+use Rattle.au_judged_programs.proofs.RunLemmas.{runs_held, runs_well_seen}
+use Rattle.au_judged_programs.proofs.SoundEntriesCallLemmas.{any_calls}
+use Rattle.au_judged_programs.specs.Entries.{EntriesHoldWell, EntriesRunWell, IsEntryHere}
 use Rattle.au_judged_programs.proofs.TypeLemmas.{exit_is, root_home, type_named}
 
 none_stand : (heads : List (DeclAt × Head)) → StandsFor heads [] [] []
@@ -65,8 +65,7 @@ module _ (names : List (Bytes × DeclAt)) (heads : List (DeclAt × Head)) (h : H
   form_is (g ∷ generics) e = absurd (none-some root e)
 
 module _ (program : List ModuleParts) (noted : List NotedParts) (checked : IsChecked program noted)
-    (calls : CallsRunInBodies program noted (owner_of program)) (target : Target)
-    (entry : IsEntryHere program noted target) where
+    (target : Target) (entry : IsEntryHere program noted target) where
   abbrev body : BodyOf
   body = entry.body
 
@@ -146,8 +145,24 @@ module _ (program : List ModuleParts) (noted : List NotedParts) (checked : IsChe
     open_none = refl;
   }
 
+-- A function of the form of an entry is called in a way that is an entry, whichever numbers the first names of
+-- functions have.
+pub entry_way : (program : List ModuleParts) (noted : List NotedParts) → IsChecked program noted → (target : Target)
+    → IsEntryHere program noted target → (first : Instance → ℕ)
+    → (way : Key program noted) × (way.one ≡ record { of = target; given = [] })
+    × IsEntry (types_of program) (owner_of program) (ways program noted) (generic_functions program noted first) way
+entry_way program noted checked target entry first =
+    (key program noted checked target entry, refl, is_entry program noted checked target entry first)
+
 pub entries_well : (program : List ModuleParts) (noted : List NotedParts) → EntriesRunWell program noted
 entries_well program noted checked target entry first input ticks =
-    let calls = calls_of_programs program noted checked in
-    runs_well_seen program noted (owner_of program) checked calls first (key program noted checked calls target entry)
-    (is_entry program noted checked calls target entry first) input ticks
+    let calls = any_calls program noted checked in
+    runs_well_seen program noted (owner_of program) checked calls first (key program noted checked target entry)
+    (is_entry program noted checked target entry first) input ticks
+
+pub entries_held : (program : List ModuleParts) (noted : List NotedParts) {W : Type 0}
+    (permits : Permits (Key program noted) W) → EntriesHoldWell program noted permits
+entries_held program noted permits checked covered target entry first input ticks =
+    let calls = any_calls program noted checked in
+    runs_held program noted (owner_of program) permits checked calls covered first
+    (key program noted checked target entry) (is_entry program noted checked target entry first) input ticks

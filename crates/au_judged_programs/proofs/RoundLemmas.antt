@@ -120,11 +120,11 @@ constraints_kept program generics region to s holds name class value c e =
 -- ---- what is known round a body
 
 module _ (program : List ModuleParts) (noted : List NotedParts) (place : ℕ) (generics : List Bounded) (given : Given)
-    (owner : ClosedType → Option (List ℕ)) {K : Type 0} (known : Callables Instance K) where
+    (owner : ClosedType → Option (List ℕ)) {K : Type 0} (known : Callables Instance K) (may_hand : Meaning → Type 0) where
   pub round_fits : IsChecked program noted → ConstantsStand program noted place generics given
-      → CallsRunHere program noted place generics given owner known
+      → CallsRunHere program noted place generics given owner known may_hand
       → RoundFits (types_of program) owner (view_under program noted place (parameters generics) given) known
-      (outside_of program place Body) generics given (AreGoodHere program noted place generics given)
+      may_hand (outside_of program place Body) generics given (AreGoodHere program noted place generics given)
   round_fits checked constants calls = record {
     noted = λ n. refl;
     readers = λ t region. reader_free program t region;

@@ -17,11 +17,14 @@ use Rattle.au_closing_laws.specs.Accepted.{AreAcceptedAs}
 use Rattle.au_closing_laws.specs.Programs.{program_modules}
 use Rattle.au_closing_laws.specs.Trees.{ReadFile}
 use Rattle.au_judged_programs.specs.CheckedChecked.{IsChecked}
-use Rattle.au_judged_programs.specs.Judged.{CallsRunInBodies}
+use Rattle.au_judged_programs.specs.Judged.{AreCovered, CallsAreAllowed, CallsRunInBodies, anything}
+use Rattle.au_judged_bodies.specs.Held.{Permits}
 use Rattle.au_judged_bodies.specs.Keys.{Key}
+use Rattle.au_judged_bodies.specs.Known.{Calls}
+use Rattle.au_judged_bodies.specs.Tables.{types_of}
 use Rattle.au_judged_programs.specs.RunningBodiesBodies.{generics_of}
 use Rattle.au_judged_programs.specs.Programs.{OthersAreSeen}
-use Rattle.au_sound.specs.Runs.{IsSeenWell}
+use Rattle.au_sound.specs.Runs.{HoldsWhereCut, IsSeenWell}
 
 -- A function has the form of an entry: its body is there and has no type parameters, it takes nothing or the
 -- root, and gives `ExitCode`.
@@ -44,9 +47,12 @@ OthersAreSeenInBodies program noted =
 abbrev pub OthersOfProgramsAreSeen : List ModuleParts → List NotedParts → Type 0
 OthersOfProgramsAreSeen program noted = IsChecked program noted → OthersAreSeenInBodies program noted
 
--- Calls run in the bodies of a checked program.
-abbrev pub CallsOfProgramsRun : List ModuleParts → List NotedParts → Type 0
-CallsOfProgramsRun program noted = IsChecked program noted → CallsRunInBodies program noted (owner_of program)
+-- Calls run in the bodies of a checked program, where they are allowed.
+abbrev pub CallsOfProgramsRun : (program : List ModuleParts) (noted : List NotedParts) {E H : Type 0}
+    → Calls (Key program noted) E → Permits (Key program noted) H → Type 0
+CallsOfProgramsRun program noted calls handed =
+    IsChecked program noted → CallsAreAllowed program noted handed calls
+    → CallsRunInBodies program noted handed calls (owner_of program)
 
 -- Every run of a program with notes from such a function is seen well, and what is born of an opaque type is
 -- born in its own module, whatever the input and however many ticks there are, and whichever numbers the
@@ -60,6 +66,16 @@ AllRunsAreSeenWell program noted =
 -- So it is in a checked program.
 abbrev pub EntriesRunWell : List ModuleParts → List NotedParts → Type 0
 EntriesRunWell program noted = IsChecked program noted → AllRunsAreSeenWell program noted
+
+-- Names hold what is permitted wherever such a run of a checked program is cut off, where this covers the
+-- bodies of functions.
+abbrev pub EntriesHoldWell : (program : List ModuleParts) (noted : List NotedParts) {W : Type 0}
+    → Permits (Key program noted) W → Type 0
+EntriesHoldWell program noted permits =
+    IsChecked program noted → AreCovered program noted (anything (Key program noted)) permits → (target : Target)
+    → IsEntryHere program noted target → (first : Instance → ℕ) (input : List ℕ) (ticks : ℕ)
+    → HoldsWhereCut (types_of program) (owner_of program) permits
+    (mean (generic_functions program noted first) (record { of = target; given = [] }) input ticks)
 
 -- So it is in an accepted program.
 abbrev pub AcceptedEntriesRunWell : Type 0

@@ -43,7 +43,9 @@ use Rattle.au_judged_bodies.specs.Callees.{IsPut}
 use Rattle.au_judged_bodies.specs.Sights.{CallIsSeen}
 use Rattle.au_judged_bodies.specs.Makers.{DefinitionsAreApart, OwnTypesAreDefined}
 use Rattle.au_judged_bodies.specs.Functions.{BodyRuns, IsDeclaredWell}
-use Rattle.au_judged_bodies.specs.Keys.{ConstraintsHold, ways}
+use Rattle.au_judged_bodies.specs.Keys.{ConstraintsHold, Key, ways}
+use Rattle.au_judged_bodies.specs.Known.{Calls, callees}
+use Rattle.au_judged_programs.specs.RoundProgramsBodies.{AllowsHere}
 use Rattle.au_judged_programs.specs.CalledBodiesBodies.{ConstraintsAreMeant, is_function}
 
 -- a declaration is a class
@@ -120,10 +122,14 @@ module _ (program : List ModuleParts) (trees : List NotedParts) (place : ℕ) (g
       → ShippedAreSeen program trees place (parameters generics) regions given s z active
       × MethodsAreSeen regions s z active
 
-  -- Then all good calls in a body run, in each frame that fits, where the constraints of the body hold.
-  abbrev pub CallsOfBodiesRun : Type 0
-  CallsOfBodiesRun =
-      ProgramFits program trees → OthersAreSeen → (names : ℕ → Meaning) (active : ℕ → Bool) (sc : Scope)
+  -- Then all good calls in a body run, in each frame that fits, where the constraints of the body hold,
+  -- if their arguments are of types that may be handed on, and from this way calls may lead there.
+  abbrev pub CallsOfBodiesRun : {E : Type 0} → Calls (Key program trees) E → Key program trees
+      → (Meaning → Type 0) → Type 0
+  CallsOfBodiesRun calls key may_hand =
+      ProgramFits program trees → OthersAreSeen
+      → AllowsHere program trees place generics given (ways program trees) calls key may_hand
+      → (names : ℕ → Meaning) (active : ℕ → Bool) (sc : Scope)
       (scope : meaning.Scope) (s : Bindings) (z : ℕ) → sc.outside ≡ outside_of program place Body
       → sc.generics ≡ generics
       → StandsFor (heads_of program) (parameters generics) given s → ConstraintsHold program generics s
@@ -132,4 +138,4 @@ module _ (program : List ModuleParts) (trees : List NotedParts) (place : ℕ) (g
       given z
       → CallsRun (types_of program) (owner_of program)
       (view_under program trees place (parameters generics) given)
-      (ways program trees) names active sc scope s given z
+      (callees (ways program trees) calls key) may_hand names active sc scope s given z

@@ -22,12 +22,13 @@ use Rattle.au_meaning.specs.Worlds.{Value}
 use Rattle.au_judged_bodies.specs.Instances.{Instance}
 use Rattle.au_judged_bodies.specs.Generic.{view_under}
 use Rattle.au_judged_bodies.specs.Tables.{types_of}
-use Rattle.au_judged_bodies.specs.Known.{Callables}
+use Rattle.au_judged_bodies.specs.Known.{Callables, Calls}
 use Rattle.au_judged_bodies.specs.StandingTypesStanding.{StandsFor}
 use Rattle.au_judged_bodies.specs.Frames.{FrameFits}
 use Rattle.au_judged_bodies.specs.Keys.{ConstraintsHold}
 use Rattle.au_judged_bodies.specs.TypedRunsLaws.{CallsRun}
 use Rattle.au_judged_bodies.specs.Rounds.{RoundFits}
+use Rattle.au_judged_bodies.specs.Sights.{Allows}
 use Rattle.au_judged_programs.specs.CheckedChecked.{IsChecked}
 
 module _ (program : List ModuleParts) (noted : List NotedParts) (place : ℕ) (generics : List Bounded)
@@ -48,9 +49,16 @@ module _ (program : List ModuleParts) (noted : List NotedParts) (place : ℕ) (g
   AreGoodHere s = StandsFor (heads_of program) (parameters generics) given s
       × ConstraintsHold program generics s
 
-  -- Calls in a body run in each frame that fits.
-  abbrev pub CallsRunHere : (ClosedType → Option (List ℕ)) → {K : Type 0} → Callables Instance K → Type 0
-  CallsRunHere owner known =
+  -- From this way calls in a body lead to each way whose parameters are of running types of what may be
+  -- handed on.
+  abbrev pub AllowsHere : {K E : Type 0} → Callables Instance K → Calls K E → K → (Meaning → Type 0) → Type 0
+  AllowsHere known calls key may_hand =
+      Allows (heads_of program) (parameters generics) may_hand AreGoodHere known calls key
+
+  -- Calls in a body run in each frame that fits, if their arguments are of types that may be handed on.
+  abbrev pub CallsRunHere : (ClosedType → Option (List ℕ)) → {K : Type 0} → Callables Instance K
+      → (Meaning → Type 0) → Type 0
+  CallsRunHere owner known may_hand =
       (names : ℕ → Meaning) (active : ℕ → Bool) (sc : Scope) (scope : meaning.Scope) (s : Bindings) (z : ℕ)
       → sc.outside ≡ outside_of program place Body → sc.generics ≡ generics
       → StandsFor (heads_of program) (parameters generics) given s → ConstraintsHold program generics s
@@ -58,13 +66,14 @@ module _ (program : List ModuleParts) (noted : List NotedParts) (place : ℕ) (g
       (view_under program noted place (parameters generics) given) names active sc scope s
       given z
       → CallsRun (types_of program) owner
-      (view_under program noted place (parameters generics) given) known names active
-      sc scope s given z
+      (view_under program noted place (parameters generics) given) known may_hand names
+      active sc scope s given z
 
   -- Where constants stand and calls run, what is known round a body of a checked program agrees with what
   -- is known where it runs.
-  abbrev pub RoundsFit : (ClosedType → Option (List ℕ)) → {K : Type 0} → Callables Instance K → Type 0
-  RoundsFit owner known =
-      IsChecked program noted → ConstantsStand → CallsRunHere owner known
+  abbrev pub RoundsFit : (ClosedType → Option (List ℕ)) → {K : Type 0} → Callables Instance K
+      → (Meaning → Type 0) → Type 0
+  RoundsFit owner known may_hand =
+      IsChecked program noted → ConstantsStand → CallsRunHere owner known may_hand
       → RoundFits (types_of program) owner (view_under program noted place (parameters generics) given) known
-      (outside_of program place Body) generics given AreGoodHere
+      may_hand (outside_of program place Body) generics given AreGoodHere

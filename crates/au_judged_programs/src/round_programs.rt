@@ -7,12 +7,14 @@ ghost use Rattle.au_type_texts.specs.Types.{ClosedType};
 ghost use Rattle.au_modules.specs.Programs.{ModuleParts};
 ghost use Rattle.au_judged_bodies.specs.Instances.{Instance};
 ghost use Rattle.au_judged_bodies.specs.Trees.{NotedParts};
+ghost use Rattle.au_judged_bodies.specs.Held.{IsPermitted, Permits};
 ghost use Rattle.au_judged_bodies.specs.Known.{Callables};
 ghost use Rattle.au_judged_programs.specs.RoundProgramsBodies.{RoundsFit};
 
 /// What is known round a body of a checked program fits, where constants stand and calls run.
-pub fn rounds_fit<K>()
+pub fn rounds_fit<K, U, H>()
     ensures { (program : List ModuleParts) (noted : List NotedParts) (place : ℕ) (generics : List Bounded)
         (given : Given) (owner : ClosedType → Option (List ℕ)) (known : Callables Instance K)
-        → RoundsFit program noted place generics given owner known }
+        (handed : Permits U H) (from : U)
+        → RoundsFit program noted place generics given owner known (IsPermitted handed from) }
 {}

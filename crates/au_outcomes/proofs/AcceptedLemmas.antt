@@ -45,15 +45,17 @@ use Rattle.au_rules.specs.declared.faults.DeclFault.TheVariants as rules
 use Rattle.au_rules.specs.DeclFaults.{decl_fault}
 use Rattle.au_rules.specs.Good.{AllDeclarationsAreGood}
 use Rattle.au_rules.proofs.AcceptedLemmas as declaring
-use Rattle.au_outcomes.specs.Accepted.{Accepted, AreAcceptedAs, is_behind, judges}
+use Rattle.au_accepted.specs.Accepted.{Accepted, AreAcceptedAs}
+use Rattle.au_outcomes.specs.Outcomes.{AskedCome, BytesCome, Comes, IsFirst, is_behind, judges}
 use Rattle.au_outcomes.specs.Halts.{IsUnhad}
 use Rattle.au_outcomes.specs.Layouts.{LaidCome}
-use Rattle.au_outcomes.specs.Outcomes.{AskedCome, BytesCome, Comes, IsFirst}
 use Rattle.au_outcomes.specs.Programs.{AcceptedCome, CompileComes, ReadsCome, ReportComes, RunComes, bodies_outcome}
 use Rattle.au_outcomes.specs.Programs.{class_outcome, declaration_outcome, import_outcome, judged_by, life_outcome}
-use Rattle.au_outcomes.specs.Programs.{module_outcome, modules_outcome, program_files, program_modules}
+use Rattle.au_accepted.specs.Programs.{program_files, program_modules}
+use Rattle.au_outcomes.specs.Programs.{module_outcome, modules_outcome}
 use Rattle.au_outcomes.specs.Programs.{program_outcome, type_outcome}
-use Rattle.au_outcomes.specs.Trees.{AreRead, FirstHalts, Halts, ReadFile}
+use Rattle.au_accepted.specs.Trees.{AreRead, ReadFile}
+use Rattle.au_outcomes.specs.Trees.{FirstHalts, Halts}
 use Rattle.au_outcomes.specs.declared.outcomes.Aim.{Aim}
 use Rattle.au_outcomes.specs.declared.outcomes.Aim.TheVariants as aims
 use Rattle.au_outcomes.specs.declared.outcomes.Outcome.{Outcome}

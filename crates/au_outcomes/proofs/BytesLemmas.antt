@@ -19,9 +19,10 @@ use Rattle.au_outcomes.specs.Layouts.{AreLaid, LaidCome}
 use Rattle.au_outcomes.specs.Outcomes.{AskedCome, BytesCome}
 use Rattle.au_outcomes.specs.Programs.{AcceptedCome, AreOne, CompileComes, ReadsCome, ReportComes, RunComes}
 use Rattle.au_outcomes.specs.Programs.{bodies_outcome, class_outcome, declaration_outcome, import_outcome, judged_by}
-use Rattle.au_outcomes.specs.Programs.{life_outcome, module_outcome, modules_outcome, program_files, program_modules}
+use Rattle.au_accepted.specs.Programs.{program_files, program_modules}
+use Rattle.au_outcomes.specs.Programs.{life_outcome, module_outcome, modules_outcome}
 use Rattle.au_outcomes.specs.Programs.{program_outcome, type_outcome}
-use Rattle.au_outcomes.specs.Trees.{ReadFile}
+use Rattle.au_accepted.specs.Trees.{ReadFile}
 use Rattle.au_outcomes.specs.declared.outcomes.Aim.{Aim}
 use Rattle.au_outcomes.specs.declared.outcomes.Aim.TheVariants as aims
 use Rattle.au_outcomes.specs.declared.outcomes.Outcome.{Outcome}

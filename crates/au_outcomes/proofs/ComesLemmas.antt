@@ -7,9 +7,9 @@ use Rattle.au_base.specs.Outside.{Files, Counts}
 use Rattle.au_base.specs.Places.{place_after}
 use Rattle.au_lexer.specs.Cut.{Cut}
 use Rattle.au_lexer.specs.Passing.{IsWithinLimits}
-use Rattle.au_outcomes.specs.Accepted.{judges}
+use Rattle.au_outcomes.specs.Outcomes.{BytesCome, JudgedCome, files_limit, judges}
 use Rattle.au_outcomes.specs.Halts.{AreFilesOf, ComesTo, FirstUnhad, Says, is_missing, is_read_halt}
-use Rattle.au_outcomes.specs.Outcomes.{BytesCome, JudgedCome, files_limit, most_files}
+use Rattle.au_accepted.specs.Files.{most_files}
 use Rattle.au_outcomes.specs.Reading.{TokensHalt}
 use Rattle.au_outcomes.specs.Trees.{Halts}
 use Rattle.au_outcomes.specs.declared.halts.Halt.{Halt}

@@ -21,10 +21,10 @@ use Rattle.au_modules.specs.Counts as counts
 use Rattle.au_modules.specs.Counts.{are_few, has_few}
 use Rattle.au_modules.specs.Programs.{Entry, entry}
 use Rattle.au_outcomes.specs.Halts.{bytes_in}
-use Rattle.au_outcomes.specs.Outcomes.{most_files}
-use Rattle.au_outcomes.specs.Programs.{entries, shipped_entries}
+use Rattle.au_accepted.specs.Files.{most_files}
+use Rattle.au_accepted.specs.Programs.{entries, shipped_entries}
 use Rattle.au_outcomes.specs.Reading.{AreKept}
-use Rattle.au_outcomes.specs.Trees.{AreRead, IsRead, ReadFile}
+use Rattle.au_accepted.specs.Trees.{AreRead, IsRead, ReadFile}
 
 -- ---- a file has no more declarations than words
 

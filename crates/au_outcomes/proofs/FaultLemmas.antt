@@ -7,7 +7,7 @@ use Rattle.au_modules.specs.declared.faults.ModuleFault.TheVariants as modules
 use Rattle.au_sights.specs.declared.faults.TypeFault.TheVariants as typing
 use Rattle.au_program_lives.specs.declared.faults.LinearFault.TheVariants as lives
 use Rattle.au_rules.specs.declared.faults.DeclFault.TheVariants as rules
-use Rattle.au_outcomes.specs.Accepted.{is_behind}
+use Rattle.au_outcomes.specs.Outcomes.{is_behind}
 use Rattle.au_outcomes.specs.Halts.{Says, is_read_halt, known_or_memory}
 use Rattle.au_outcomes.specs.Programs.{class_outcome, declaration_outcome, import_outcome, judged_by, life_outcome}
 use Rattle.au_outcomes.specs.Programs.{module_outcome, type_outcome}

@@ -15,8 +15,8 @@ use Rattle.au_base.specs.Limits.{most_file_bytes}
 use Rattle.au_base.specs.Outside.{Files}
 use Rattle.au_base.proofs.TextLemmas.{bytes_self, bytes_same}
 use Rattle.au_outcomes.specs.Halts.{AreFilesOf, AreTold, Extends, FirstUnhad, IsUnhad, StopsIn, Tells, bytes_in}
-use Rattle.au_outcomes.specs.Outcomes.{AreFiles, BytesCome, FewCome, FilesCome, IsFile, IsFirst, IsTooLarge}
-use Rattle.au_outcomes.specs.Outcomes.{file_limit, most_files}
+use Rattle.au_accepted.specs.Files.{AreFiles, IsFile, most_files}
+use Rattle.au_outcomes.specs.Outcomes.{BytesCome, FewCome, FilesCome, IsFirst, IsTooLarge, file_limit}
 use Rattle.au_outcomes.specs.declared.outcomes.Aim.{Aim}
 use Rattle.au_outcomes.specs.declared.outcomes.Outcome.{Outcome}
 use Rattle.au_outcomes.specs.declared.outcomes.Outcome.TheVariants as outcome

@@ -23,8 +23,8 @@ use Rattle.au_syntax.specs.Plain.{PlainModule}
 use Rattle.au_syntax.specs.Words.{Spells}
 use Rattle.au_outcomes.specs.Halts.{is_missing}
 use Rattle.au_outcomes.specs.Reading.{TokensHalt}
-use Rattle.au_outcomes.specs.Trees.{AreRead, FirstHalts, Halts, HasNoTree, HasTokens, HasTree, IsRead}
-use Rattle.au_outcomes.specs.Trees.{ReadFile, place_or}
+use Rattle.au_accepted.specs.Trees.{AreRead, HasTree, IsRead, ReadFile}
+use Rattle.au_outcomes.specs.Trees.{FirstHalts, Halts, HasNoTree, HasTokens, place_or}
 use Rattle.au_outcomes.specs.declared.outcomes.Outcome.{Outcome}
 use Rattle.au_outcomes.specs.declared.outcomes.Outcome.TheVariants as outcome
 use Rattle.au_outcomes.specs.Refusals.{is_refusal}

@@ -28,7 +28,8 @@ use Rattle.au_outcomes.specs.Halts.{Says, known_or_memory}
 use Rattle.au_outcomes.specs.Programs.{AreJudgedAs, bodies_outcome, class_outcome, declaration_outcome}
 use Rattle.au_outcomes.specs.Programs.{import_outcome, judged_by}
 use Rattle.au_outcomes.specs.Programs.{life_outcome, module_outcome, modules_outcome, program_outcome}
-use Rattle.au_outcomes.specs.Programs.{shipped_entries, type_outcome}
+use Rattle.au_accepted.specs.Programs.{shipped_entries}
+use Rattle.au_outcomes.specs.Programs.{type_outcome}
 use Rattle.au_outcomes.specs.declared.halts.Halt.{Halt}
 use Rattle.au_outcomes.specs.declared.outcomes.Outcome.{Outcome}
 use Rattle.au_outcomes.proofs.FaultLemmas.{judged_says, of_declarations, of_imports, of_instances, of_lives}

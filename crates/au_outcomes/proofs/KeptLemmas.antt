@@ -6,7 +6,7 @@ use Rattle.std.proofs.lemmas.List.{append-nil, drop_all, drop_more}
 use Rattle.au_modules.specs.Programs.{entry}
 use Rattle.au_syntax.specs.declared.wholes.FileTree.{FileTree}
 use Rattle.au_outcomes.specs.Halts.{bytes_in}
-use Rattle.au_outcomes.specs.Programs.{entries}
+use Rattle.au_accepted.specs.Programs.{entries}
 use Rattle.au_outcomes.specs.Reading.{AreKept, IsKept}
 use Rattle.au_outcomes.specs.Trees.{FirstHalts, Halts}
 use Rattle.au_outcomes.specs.declared.outcomes.Outcome.{Outcome}

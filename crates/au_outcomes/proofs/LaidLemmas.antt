@@ -13,8 +13,10 @@ use Rattle.au_outcomes.specs.Halts.{bytes_in}
 use Rattle.au_outcomes.specs.Layouts.{AreLaid, AreLaidOut, IsLaidOut}
 use Rattle.au_outcomes.specs.Outcomes.{AskedCome, BytesCome, Comes, HasLayout, files_limit}
 use Rattle.au_modules.specs.Programs.{Entry}
-use Rattle.au_outcomes.specs.Programs.{AcceptedCome, ReadsCome, program_files, program_outcome, read_lives}
-use Rattle.au_outcomes.specs.Trees.{FirstHalts, HasTree, IsRead, ReadFile}
+use Rattle.au_accepted.specs.Programs.{program_files}
+use Rattle.au_outcomes.specs.Programs.{AcceptedCome, ReadsCome, program_outcome, read_lives}
+use Rattle.au_accepted.specs.Trees.{HasTree, IsRead, ReadFile}
+use Rattle.au_outcomes.specs.Trees.{FirstHalts}
 use Rattle.au_outcomes.specs.declared.outcomes.Aim.{Aim}
 use Rattle.au_outcomes.specs.declared.outcomes.Aim.TheVariants as aims
 use Rattle.au_outcomes.specs.declared.outcomes.Outcome.{Outcome}

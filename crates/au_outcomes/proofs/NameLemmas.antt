@@ -4,8 +4,8 @@ use Rattle.std.proofs.Common.{subst, arith, ◌⊎◌, inl, inr}
 use Rattle.au_base.specs.Limits.{most_file_bytes}
 use Rattle.au_base.specs.Outside.{Files}
 use Rattle.au_outcomes.specs.Halts.{IsUnhad}
-use Rattle.au_outcomes.specs.Outcomes.{AreFiles, BytesCome, Comes, FewCome, IsFile, IsFirst, file_limit}
-use Rattle.au_outcomes.specs.Outcomes.{is_outcome, most_files}
+use Rattle.au_accepted.specs.Files.{AreFiles, IsFile, most_files}
+use Rattle.au_outcomes.specs.Outcomes.{BytesCome, Comes, FewCome, IsFirst, file_limit, is_outcome}
 use Rattle.au_outcomes.specs.Programs.{AreOne}
 use Rattle.au_outcomes.specs.declared.outcomes.Aim.{Aim}
 use Rattle.au_outcomes.specs.declared.outcomes.Outcome.{Outcome}

@@ -5,7 +5,8 @@ use Rattle.std.specs.Global.{Global}
 use Rattle.au_base.specs.Outside.{Files}
 use Rattle.au_lexer.specs.declared.lexing.LexFault.{LexFault}
 use Rattle.au_lexer.specs.declared.lexing.LexFault.TheVariants as lexing
-use Rattle.au_outcomes.specs.Outcomes.{AreFiles, Comes, IsFirst, IsTooLarge, file_limit, most_files}
+use Rattle.au_accepted.specs.Files.{AreFiles, most_files}
+use Rattle.au_outcomes.specs.Outcomes.{Comes, IsFirst, IsTooLarge, file_limit}
 use Rattle.au_outcomes.specs.declared.halts.CheckFault.{CheckFault}
 use Rattle.au_outcomes.specs.declared.halts.CheckFault.TheVariants as fault
 use Rattle.au_outcomes.specs.declared.halts.Halt.{Halt}

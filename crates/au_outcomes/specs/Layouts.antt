@@ -1,7 +1,7 @@
 -- What files come to that are laid out.
 use Rattle.std.specs.Prelude.{◌≡◌, ℕ, List, [], ◌∷◌, ◌++◌}
 use Rattle.au_format.specs.Layout.{IsLayout}
-use Rattle.au_outcomes.specs.Trees.{AreRead, IsRead, ReadFile}
+use Rattle.au_accepted.specs.Trees.{AreRead, IsRead, ReadFile}
 use Rattle.au_outcomes.specs.declared.outcomes.Outcome.{Outcome}
 use Rattle.au_outcomes.specs.declared.outcomes.Outcome.TheVariants as outcome
 

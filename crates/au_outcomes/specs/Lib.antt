@@ -1,5 +1,4 @@
 pub use Rattle.au_explain.specs.declared.lists.Lives
-pub use Rattle.au_explain.specs.Faults
 pub use Rattle.au_caps_text.specs.declared.reports.Report
 pub use Rattle.au_caps.specs.Reports
 pub mod Refusals
@@ -10,7 +9,6 @@ pub mod Programs
 pub mod Outcomes
 pub mod Halts
 pub mod Reading
-pub mod Accepted
 pub mod Explain
 pub mod Caps
 pub mod NotingPrograms

@@ -1,13 +1,15 @@
 -- What files come to, by their names and bytes.
-use Rattle.std.specs.Prelude.{◌≡◌, ℕ, ◌<◌, ◌≤◌, ◌⊎◌, Bool, true, List, [], ◌∷◌, length, Some, None}
+use Rattle.std.specs.Prelude.{◌≡◌, ℕ, ◌<◌, ◌≤◌, ◌⊎◌, Bool, true, false, List, [], ◌∷◌, length, Some, None}
 use Rattle.au_base.specs.declared.limits.Limit.{Limit}
 use Rattle.au_base.specs.declared.limits.LimitKind.TheVariants as kind
 use Rattle.au_base.specs.Limits.{most_file_bytes}
 use Rattle.au_base.specs.Outside.{Files}
+use Rattle.au_accepted.specs.Files.{AreFiles, IsFile, most_files}
+use Rattle.au_accepted.specs.Trees.{AreRead, ReadFile}
 use Rattle.au_outcomes.specs.Refusals.{is_refusal}
 use Rattle.au_outcomes.specs.Layouts.{AreLaid, LaidCome}
 use Rattle.au_outcomes.specs.Programs.{ReadsCome}
-use Rattle.au_outcomes.specs.Trees.{AreRead, FirstHalts, ReadFile}
+use Rattle.au_outcomes.specs.Trees.{FirstHalts}
 use Rattle.au_outcomes.specs.declared.outcomes.Aim.{Aim}
 use Rattle.au_outcomes.specs.declared.outcomes.Aim.TheVariants as aims
 use Rattle.au_outcomes.specs.declared.outcomes.Outcome.{Outcome}
@@ -26,34 +28,42 @@ is_outcome (outcome.Reported report) = true
 is_outcome (outcome.Runs program) = true
 is_outcome (outcome.Compiles program) = true
 
+-- whether files of which this is asked are judged as those of a program: they aren't where they are laid out
+abbrev pub judges : Aim → Bool
+judges aims.Run = true
+judges aims.Compile = true
+judges aims.Check = true
+judges aims.Explain = true
+judges aims.Format = false
+judges aims.Caps = true
+
+-- whether files come to this behind the steps that judge whether they are accepted: that is told, or the
+-- lives of its variables are, or what it can do with capabilities, or the program is to run or to be compiled
+abbrev pub is_behind : Outcome → Bool
+is_behind outcome.NoJob = false
+is_behind (outcome.Missing name) = false
+is_behind (outcome.Passes limit) = false
+is_behind (outcome.Refused refusal) = false
+is_behind outcome.Accepted = true
+is_behind (outcome.Explained lives) = true
+is_behind (outcome.Laid text) = false
+is_behind (outcome.Reported report) = true
+is_behind (outcome.Runs program) = true
+is_behind (outcome.Compiles program) = true
+
 -- the limit of a file's bytes, with the one count that passes it
 abbrev pub file_limit : Limit
 file_limit = record { kind = kind.FileBytes; count = 1048577; most = 1048576 }
 
--- The file of this name has these bytes, and isn't too large.
-abbrev pub IsFile : Files → List ℕ → List ℕ → Type 0
-IsFile files name bytes = (files name ≡ Some bytes) × (length bytes ≤ most_file_bytes)
-
 -- The file of this name is too large.
 abbrev pub IsTooLarge : Files → List ℕ → Type 0
 IsTooLarge files name = (bytes : List ℕ) × (files name ≡ Some bytes) × (most_file_bytes < length bytes)
-
--- The files of these names have these bytes, and none is too large.
-abbrev pub AreFiles : Files → List (List ℕ) → List (List ℕ) → Type 0
-AreFiles files [] [] = Unit {0}
-AreFiles files (name ∷ names) (bytes ∷ others) = IsFile files name bytes × AreFiles files names others
-AreFiles files [] (bytes ∷ others) = ⊥
-AreFiles files (name ∷ names) [] = ⊥
 
 -- The first of the files that can't be had has this property: those before it can be had.
 abbrev pub IsFirst : (List ℕ → Type 0) → Files → List (List ℕ) → Type 0
 IsFirst P files [] = ⊥
 IsFirst P files (name ∷ names) =
     P name ⊎ (((bytes : List ℕ) × IsFile files name bytes) × IsFirst P files names)
-
--- how many files a program may have
-abbrev pub most_files : ℕ
-most_files = 128
 
 -- the limit of the number of files, with the whole count that passes it
 abbrev pub files_limit : ℕ → Limit

@@ -1,7 +1,7 @@
 -- What the files of a program come to once they are read: they are gathered into modules behind the shipped
 -- ones, the names and promises of the modules are judged, then their declarations, then their instances, then
 -- the types in bodies, and then the lives of variables. Where all of this is good the program is accepted.
-use Rattle.std.specs.Prelude.{◌≡◌, ◌⊎◌, ◌+◌, ℕ, List, [], ◌∷◌, ◌++◌, map, Option, None, Some}
+use Rattle.std.specs.Prelude.{◌≡◌, ◌⊎◌, List, Option, None, Some}
 use Rattle.std.specs.Option.{option_or}
 use Rattle.au_explain.specs.declared.lists.Lives.{Lives}
 use Rattle.au_modules.specs.declared.faults.ModuleFault.{ModuleFault}
@@ -9,8 +9,6 @@ use Rattle.au_modules.specs.declared.faults.ModuleFault.TheVariants as modules
 use Rattle.au_modules.specs.Programs as programs
 use Rattle.au_modules.specs.Programs.{Entry, ModuleParts, modules_of}
 use Rattle.au_modules.specs.Slots as slots
-use Rattle.au_syntax.specs.Plain.{PlainModule}
-use Rattle.au_shipped.specs.Shipped.{shipped_files}
 use Rattle.au_classes.specs.declared.faults.ClassFault.{ClassFault}
 use Rattle.au_classes.specs.declared.faults.ClassFault.TheVariants as classes
 use Rattle.au_classes.specs.Faults.{instance_fault}
@@ -29,29 +27,13 @@ use Rattle.au_program_lives.specs.LinearFaults.{linear_fault}
 use Rattle.au_rules.specs.declared.faults.DeclFault.{DeclFault}
 use Rattle.au_rules.specs.declared.faults.DeclFault.TheVariants as rules
 use Rattle.au_rules.specs.DeclFaults.{decl_fault}
-use Rattle.au_outcomes.specs.Trees.{ReadFile}
+use Rattle.au_accepted.specs.Programs.{program_files, program_modules}
+use Rattle.au_accepted.specs.Trees.{ReadFile}
 use Rattle.au_outcomes.specs.declared.outcomes.Aim.{Aim}
 use Rattle.au_outcomes.specs.declared.outcomes.Aim.TheVariants as aims
 use Rattle.au_outcomes.specs.declared.outcomes.Outcome.{Outcome}
 use Rattle.au_outcomes.specs.declared.outcomes.Outcome.TheVariants as outcome
 use Rattle.au_outcomes.specs.declared.refusals.Refusal.TheVariants as refusal
-
--- files that were read, the first of this number, as those that modules are gathered of
-unfoldable pub entries : ℕ → List ReadFile → List Entry
-entries file [] = []
-entries file (one ∷ rest) = record { file = file; tree = one.tree } ∷ entries (file + 1) rest
-
--- the files that are shipped
-unfoldable pub shipped_entries : List Entry
-shipped_entries = map (λ (f : ℕ × PlainModule). record { file = f.0; tree = f.1 }) shipped_files
-
--- the files of a program: the shipped ones, and then those that were read
-abbrev pub program_files : List ReadFile → List Entry
-program_files reads = shipped_entries ++ entries 0 reads
-
--- its modules
-abbrev pub program_modules : List ReadFile → List ModuleParts
-program_modules reads = modules_of (program_files reads)
 
 -- what a program comes to whose files aren't those of modules: want of memory is no cause of the files
 abbrev pub module_outcome : ModuleFault → Option Outcome

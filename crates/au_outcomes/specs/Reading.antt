@@ -4,8 +4,9 @@ use Rattle.au_base.specs.declared.places.Pos.{Pos}
 use Rattle.au_base.specs.declared.tokens.Token.{Token}
 use Rattle.au_modules.specs.Programs.{entry}
 use Rattle.au_syntax.specs.declared.wholes.FileTree.{FileTree}
-use Rattle.au_outcomes.specs.Programs.{entries}
-use Rattle.au_outcomes.specs.Trees.{AreRead, HasNoTree, IsPlaceIn, IsRead, ReadFile, TreesPass}
+use Rattle.au_accepted.specs.Programs.{entries}
+use Rattle.au_accepted.specs.Trees.{AreRead, IsRead, ReadFile}
+use Rattle.au_outcomes.specs.Trees.{HasNoTree, IsPlaceIn, TreesPass}
 use Rattle.au_outcomes.specs.declared.outcomes.Outcome.{Outcome}
 use Rattle.au_outcomes.specs.declared.outcomes.Outcome.TheVariants as outcome
 use Rattle.au_outcomes.specs.declared.refusals.Refusal.TheVariants.{Syntax}

@@ -1,4 +1,4 @@
--- Which tokens have a tree, and what tokens come to.
+-- Which tokens have no tree, and what files come to that can't be read.
 use Rattle.std.specs.Prelude.{◌≡◌, ◌⊎◌, ℕ, ◌+◌, List, [], ◌∷◌, IsTrue, unwrap_or, slice_get}
 use Rattle.std.specs.Option.{option_map}
 use Rattle.au_base.specs.declared.limits.Limit.{Limit}
@@ -12,15 +12,11 @@ use Rattle.au_parser.specs.Passing.{IsPassed, PassesNone}
 use Rattle.au_read_expressions.specs.Bounds.{ModulePasses, usual}
 use Rattle.au_syntax.specs.Forms.{formed_module}
 use Rattle.au_syntax.specs.Plain.{PlainModule}
-use Rattle.au_syntax.specs.Sizes.{fits}
 use Rattle.au_syntax.specs.Words.{Spells}
+use Rattle.au_accepted.specs.Trees.{IsRead, ReadFile}
 use Rattle.au_outcomes.specs.declared.outcomes.Outcome.{Outcome}
 use Rattle.au_outcomes.specs.declared.outcomes.Outcome.TheVariants as outcome
 use Rattle.au_outcomes.specs.declared.refusals.Refusal.TheVariants.{Byte, Syntax}
-
--- The tokens are the words of a tree within the limits.
-abbrev pub HasTree : List Token → Type 0
-HasTree tokens = (m : PlainModule) × IsTrue (formed_module m) × Spells m tokens × IsTrue (fits m)
 
 -- The tokens are the words of no tree, however large.
 abbrev pub HasNoTree : List Token → Type 0
@@ -44,25 +40,9 @@ abbrev pub IsPlaceIn : List Token → Pos → Pos → Type 0
 IsPlaceIn tokens end at =
     (place : ℕ) × IsFaultPlace tokens place × PassesNone usual tokens × (at ≡ place_or end tokens place)
 
--- a file that was read: its tokens, the place of its end, and its tree
-pub record ReadFile : Type 0 where
-  pub tokens : List Token
-  pub end : Pos
-  pub tree : PlainModule
-
 -- The bytes of the file of a number are cut into tokens that pass no limit, and P holds of them.
 abbrev pub HasTokens : ℕ → List ℕ → (List Token → Type 0) → Type 0
 HasTokens file bytes P = (tokens : List Token) × Cut file bytes tokens × IsWithinLimits tokens × P tokens
-
--- A file of these bytes was read so: it is cut into these tokens, which are the words of this tree, and no
--- limit is passed.
-pub record IsRead (file : ℕ) (bytes : List ℕ) (one : ReadFile) : Type 0 where
-  pub cut : Cut file bytes one.tokens
-  pub within : IsWithinLimits one.tokens
-  pub end : one.end ≡ place_after file bytes
-  pub formed : IsTrue (formed_module one.tree)
-  pub spelled : Spells one.tree one.tokens
-  pub fits : IsTrue (fits one.tree)
 
 -- What a file of these bytes comes to that can't be read: the first cause that the cut into tokens has
 -- counts, a limit or a byte that begins no token; or its tokens have no tree, or their tree passes a limit.
@@ -73,12 +53,6 @@ Halts file bytes (outcome.Passes limit) =
 Halts file bytes (outcome.Refused (Syntax at)) =
     HasTokens file bytes (λ tokens. HasNoTree tokens × IsPlaceIn tokens (place_after file bytes) at)
 Halts file bytes other = ⊥
-
--- Files in order, the first of this number, were read so.
-abbrev pub AreRead : ℕ → List (List ℕ) → List ReadFile → Type 0
-AreRead file [] [] = Unit {0}
-AreRead file (bytes ∷ others) (one ∷ rest) = IsRead file bytes one × AreRead (file + 1) others rest
-AreRead file bytes reads = ⊥
 
 -- The first of files in order that can't be read comes to this.
 abbrev pub FirstHalts : ℕ → List (List ℕ) → Outcome → Type 0

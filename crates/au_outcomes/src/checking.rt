@@ -4,10 +4,10 @@ ghost use Rattle.std.specs.Prelude.{◌≡◌, ◌≤◌, ◌<◌, All, false, m
 ghost use Rattle.std.specs.String.{string_bytes};
 ghost use Rattle.au_base.specs.Limits.{most_file_bytes};
 ghost use Rattle.au_base.specs.Outside.{Counts};
-ghost use Rattle.au_outcomes.specs.Accepted.{judges};
+ghost use Rattle.au_outcomes.specs.Outcomes.{BytesCome, JudgedCome, files_limit, judges};
 ghost use Rattle.au_outcomes.specs.Halts.{ComesTo, Says, StopsIn, bytes_in, is_missing, is_read_fault};
 ghost use Rattle.au_outcomes.specs.Halts.{is_read_halt};
-ghost use Rattle.au_outcomes.specs.Outcomes.{BytesCome, JudgedCome, files_limit, most_files};
+ghost use Rattle.au_accepted.specs.Files.{most_files};
 ghost use Rattle.au_outcomes.specs.declared.outcomes.Outcome.TheVariants as outcome;
 
 use crate::fetching::fetch_all;

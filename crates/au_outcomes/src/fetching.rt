@@ -6,7 +6,7 @@ ghost use Rattle.std.specs.String.{string_bytes};
 ghost use Rattle.au_base.specs.Outside.{Counts};
 ghost use Rattle.au_outcomes.specs.Halts.{AreFilesOf, Extends, FirstUnhad, IsUnhad, Says, StopsIn, Tells};
 ghost use Rattle.au_outcomes.specs.Halts.{bytes_in, is_missing, is_read_halt};
-ghost use Rattle.au_outcomes.specs.Outcomes.{IsFile, most_files};
+ghost use Rattle.au_accepted.specs.Files.{IsFile, most_files};
 
 use crate::halts::{CheckFault, Halt};
 use crate::outcomes::Outcome;

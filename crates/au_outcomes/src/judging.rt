@@ -7,11 +7,11 @@ ghost use Rattle.au_modules.specs.Counts.{are_few, has_few};
 ghost use Rattle.au_modules.specs.Programs.{entry};
 ghost use Rattle.au_modules.specs.Slots as slots;
 ghost use Rattle.au_outcomes.specs.Halts.{Says, is_read_halt};
-ghost use Rattle.au_outcomes.specs.Outcomes.{most_files};
+ghost use Rattle.au_accepted.specs.Files.{most_files};
 ghost use Rattle.au_outcomes.specs.Programs.{AcceptedCome, AreJudgedAs, ReportComes, bodies_outcome};
-ghost use Rattle.au_outcomes.specs.Programs.{modules_outcome, program_modules, program_outcome};
-ghost use Rattle.au_outcomes.specs.Programs.{shipped_entries};
-ghost use Rattle.au_outcomes.specs.Trees.{ReadFile};
+ghost use Rattle.au_accepted.specs.Programs.{program_modules, shipped_entries};
+ghost use Rattle.au_outcomes.specs.Programs.{modules_outcome, program_outcome};
+ghost use Rattle.au_accepted.specs.Trees.{ReadFile};
 ghost use Rattle.au_outcomes.specs.declared.outcomes.Outcome.TheVariants as outcome;
 
 use crate::halts::Halt;

@@ -2,10 +2,10 @@
 
 ghost use Rattle.std.specs.Prelude.{◌≡◌, ◌↔◌, ℕ, IsTrue, List};
 ghost use Rattle.au_base.specs.Outside.{Files};
-ghost use Rattle.au_outcomes.specs.Accepted.{Accepted, AreAcceptedAs, is_behind, judges};
-ghost use Rattle.au_outcomes.specs.Outcomes.{Comes, HasLayout};
+ghost use Rattle.au_accepted.specs.Accepted.{Accepted, AreAcceptedAs};
+ghost use Rattle.au_outcomes.specs.Outcomes.{Comes, HasLayout, is_behind, judges};
 ghost use Rattle.au_outcomes.specs.Programs.{AcceptedCome};
-ghost use Rattle.au_outcomes.specs.Trees.{ReadFile};
+ghost use Rattle.au_accepted.specs.Trees.{ReadFile};
 ghost use Rattle.au_outcomes.specs.declared.outcomes.Aim.{Aim};
 ghost use Rattle.au_outcomes.specs.declared.outcomes.Aim.TheVariants as aims;
 ghost use Rattle.au_outcomes.specs.declared.outcomes.Outcome.{Outcome};

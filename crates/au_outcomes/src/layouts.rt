@@ -4,9 +4,11 @@ ghost use Rattle.std.specs.Prelude.{◌≡◌, ◌≤◌, All, false, map, lengt
 ghost use Rattle.au_base.specs.Limits.{most_file_bytes, most_tokens};
 ghost use Rattle.au_outcomes.specs.Halts.{Says, bytes_in, is_read_halt};
 ghost use Rattle.au_outcomes.specs.Layouts.{AreLaidOut, IsLaidOut};
-ghost use Rattle.au_outcomes.specs.Outcomes.{BytesCome, most_files};
+ghost use Rattle.au_accepted.specs.Files.{most_files};
+ghost use Rattle.au_outcomes.specs.Outcomes.{BytesCome};
 ghost use Rattle.au_outcomes.specs.Reading.{TokensHalt};
-ghost use Rattle.au_outcomes.specs.Trees.{FirstHalts, Halts, HasTree};
+ghost use Rattle.au_accepted.specs.Trees.{HasTree};
+ghost use Rattle.au_outcomes.specs.Trees.{FirstHalts, Halts};
 ghost use Rattle.au_outcomes.specs.declared.outcomes.Aim.TheVariants as aims;
 
 use crate::halts::Halt;

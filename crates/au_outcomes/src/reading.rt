@@ -5,7 +5,7 @@ ghost use Rattle.au_base.specs.Limits.{most_file_bytes, most_tokens};
 ghost use Rattle.au_syntax.specs.Files.{says};
 ghost use Rattle.au_syntax.specs.Words.{Spells};
 ghost use Rattle.au_outcomes.specs.Halts.{Says, bytes_in, is_read_halt};
-ghost use Rattle.au_outcomes.specs.Outcomes.{most_files};
+ghost use Rattle.au_accepted.specs.Files.{most_files};
 ghost use Rattle.au_outcomes.specs.Reading.{AreKept, IsKept, TokensHalt};
 ghost use Rattle.au_outcomes.specs.Trees.{FirstHalts, Halts, place_or};
 

@@ -30,8 +30,8 @@ use Rattle.au_lowered.specs.Drafts.{Draft, plain, pushes_text, makes_case, ships
 use Rattle.au_lowered.specs.Programs.{function_code, numbered, texts_in, types_in}
 use Rattle.au_lowered.specs.Programs as lowered
 use Rattle.au_lowering.specs.Closed.{body_seen, code_of, functions_of, row_seen, told_by, told_in}
-use Rattle.au_outcomes.specs.Programs.{entries, program_files, program_modules, shipped_entries}
-use Rattle.au_outcomes.specs.Trees.{AreRead, ReadFile}
+use Rattle.au_accepted.specs.Programs.{entries, program_files, program_modules, shipped_entries}
+use Rattle.au_accepted.specs.Trees.{AreRead, ReadFile}
 use Rattle.au_told.specs.Names.{HasPlainNames, IsPlain, IsPlainFunction, IsPlainInstruction, IsPlainType}
 use Rattle.au_told.specs.Programs.{IsAcceptedCode}
 use Rattle.au_told.proofs.DraftLemmas.{ArePlain, IsPlainAct, IsPlainDraft, block_plain}

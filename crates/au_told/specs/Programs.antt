@@ -6,9 +6,9 @@ use Rattle.au_typing.specs.Trees.{NotedParts}
 use Rattle.au_closed_programs.specs.Programs.{ClosedProgram, Closes}
 use Rattle.au_low.specs.declared.code.Code.{Code}
 use Rattle.au_lowering.specs.Closed.{code_of}
-use Rattle.au_outcomes.specs.Accepted.{AreAcceptedAs}
-use Rattle.au_outcomes.specs.Programs.{program_modules}
-use Rattle.au_outcomes.specs.Trees.{ReadFile}
+use Rattle.au_accepted.specs.Accepted.{AreAcceptedAs}
+use Rattle.au_accepted.specs.Programs.{program_modules}
+use Rattle.au_accepted.specs.Trees.{ReadFile}
 
 -- Accepted files are lowered to this code, from an entry that is named by its module and its own name: it is
 -- that of what their program closes to from there.

@@ -6,8 +6,8 @@ ghost use Rattle.au_typing.specs.Trees.{NotedParts};
 ghost use Rattle.au_closed_programs.specs.Programs.{ClosedProgram, Closes};
 ghost use Rattle.au_low.specs.declared.code.Code.{Code};
 ghost use Rattle.au_lowering.specs.Closed.{code_of};
-ghost use Rattle.au_outcomes.specs.Programs.{program_modules};
-ghost use Rattle.au_outcomes.specs.Trees.{AreRead, ReadFile};
+ghost use Rattle.au_accepted.specs.Programs.{program_modules};
+ghost use Rattle.au_accepted.specs.Trees.{AreRead, ReadFile};
 ghost use Rattle.au_told.specs.Names.{HasPlainNames};
 ghost use Rattle.au_told.specs.Programs.{IsAcceptedCode};
 

@@ -14,7 +14,8 @@ use Rattle.au_outcomes.specs.declared.halts.CheckFault.TheVariants as fault
 use Rattle.au_outcomes.specs.Halts.{StopsIn, is_read}
 use Rattle.au_outcomes.specs.declared.outcomes.Aim.{Aim}
 use Rattle.au_top.specs.Jobs.{asked_of}
-use Rattle.au_outcomes.specs.Outcomes.{Comes, is_outcome, most_files}
+use Rattle.au_accepted.specs.Files.{most_files}
+use Rattle.au_outcomes.specs.Outcomes.{Comes, is_outcome}
 use Rattle.au_top.specs.Dues.{Arises, AsksForTooMany}
 use Rattle.au_top.specs.Calls.{FailsBehind}
 use Rattle.au_outcomes.proofs.NameLemmas.{comes_outcome}

@@ -4,9 +4,9 @@ use Rattle.std.specs.Prelude.{IsSomeAnd}
 use Rattle.au_base.specs.declared.statuses.Status.TheVariants as status
 use Rattle.au_base.specs.Outside.{Files}
 use Rattle.au_words.specs.Jobs.{Task}
-use Rattle.au_outcomes.specs.Accepted.{Accepted, AreAcceptedAs}
-use Rattle.au_outcomes.specs.Programs.{program_modules}
-use Rattle.au_outcomes.specs.Trees.{ReadFile}
+use Rattle.au_accepted.specs.Accepted.{Accepted, AreAcceptedAs}
+use Rattle.au_accepted.specs.Programs.{program_modules}
+use Rattle.au_accepted.specs.Trees.{ReadFile}
 use Rattle.au_outcomes.specs.declared.outcomes.Aim.TheVariants as aims
 use Rattle.au_outcomes.specs.declared.outcomes.Outcome.TheVariants as outcome
 use Rattle.au_top.specs.Calls.{Call, HasPaid, IsDecided, PaysReport, Tells, is_decided}

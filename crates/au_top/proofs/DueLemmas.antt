@@ -12,13 +12,16 @@ use Rattle.au_words.specs.declared.jobs.Command.TheVariants as command
 use Rattle.au_words.proofs.JobLemmas.{one_job}
 use Rattle.au_modules.specs.declared.modules.Modules.{Modules}
 use Rattle.au_modules.specs.Slots as slots
-use Rattle.au_outcomes.specs.Accepted.{Accepted, AreAcceptedAs, is_behind, judges}
+use Rattle.au_accepted.specs.Accepted.{Accepted, AreAcceptedAs}
+use Rattle.au_outcomes.specs.Outcomes.{BytesCome, Comes, FewCome, is_behind, is_outcome, judges}
 use Rattle.au_outcomes.specs.Halts.{is_missing}
-use Rattle.au_outcomes.specs.Outcomes.{AreFiles, BytesCome, Comes, FewCome, is_outcome}
-use Rattle.au_outcomes.specs.Programs.{AreOne, CompileComes, RunComes, program_modules, read_lives}
+use Rattle.au_accepted.specs.Files.{AreFiles}
+use Rattle.au_accepted.specs.Programs.{program_modules}
+use Rattle.au_outcomes.specs.Programs.{AreOne, CompileComes, RunComes, read_lives}
 use Rattle.au_outcomes.specs.Report.{Report}
 use Rattle.au_outcomes.specs.Reports.{IsReportOf}
-use Rattle.au_outcomes.specs.Trees.{HasNoTree, HasTokens, IsRead, ReadFile}
+use Rattle.au_accepted.specs.Trees.{IsRead, ReadFile}
+use Rattle.au_outcomes.specs.Trees.{HasNoTree, HasTokens}
 use Rattle.au_outcomes.specs.declared.outcomes.Aim.{Aim}
 use Rattle.au_outcomes.specs.declared.outcomes.Aim.TheVariants as aims
 use Rattle.au_outcomes.specs.declared.outcomes.Outcome.{Outcome}

@@ -18,11 +18,11 @@ use Rattle.au_running.specs.declared.coding.Uncoded.{Uncoded}
 use Rattle.au_running.specs.declared.coding.Uncoded.TheVariants as uncoded
 use Rattle.au_running.specs.declared.ran.Ran.{Ran}
 use Rattle.au_running.specs.declared.ran.Ran.TheVariants as how
-use Rattle.au_outcomes.specs.Accepted.{Accepted, AreAcceptedAs, judges}
+use Rattle.au_accepted.specs.Accepted.{Accepted, AreAcceptedAs}
+use Rattle.au_outcomes.specs.Outcomes.{Comes, judges}
 use Rattle.au_outcomes.specs.Halts.{AreTold}
-use Rattle.au_outcomes.specs.Outcomes.{Comes}
 use Rattle.au_outcomes.specs.Programs.{read_lives}
-use Rattle.au_outcomes.specs.Trees.{ReadFile}
+use Rattle.au_accepted.specs.Trees.{ReadFile}
 use Rattle.au_outcomes.specs.declared.outcomes.Aim.{Aim}
 use Rattle.au_outcomes.specs.declared.outcomes.Aim.TheVariants as aims
 use Rattle.au_outcomes.specs.declared.outcomes.Outcome.{Outcome}

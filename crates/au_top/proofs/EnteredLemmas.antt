@@ -16,10 +16,11 @@ use Rattle.au_running.specs.Follows.{LoweredProgramsKeepStep}
 use Rattle.au_running.specs.Ran.{HasNoEntry, ProgramEnds}
 use Rattle.au_running.specs.declared.ran.Ran.{Ran}
 use Rattle.au_running.specs.declared.ran.Ran.TheVariants as how
-use Rattle.au_outcomes.specs.Accepted.{Accepted, is_behind}
-use Rattle.au_outcomes.specs.Outcomes.{Comes}
-use Rattle.au_outcomes.specs.Programs.{RunComes, program_modules}
-use Rattle.au_outcomes.specs.Trees.{ReadFile}
+use Rattle.au_accepted.specs.Accepted.{Accepted}
+use Rattle.au_outcomes.specs.Outcomes.{Comes, is_behind}
+use Rattle.au_accepted.specs.Programs.{program_modules}
+use Rattle.au_outcomes.specs.Programs.{RunComes}
+use Rattle.au_accepted.specs.Trees.{ReadFile}
 use Rattle.au_outcomes.specs.declared.outcomes.Aim.TheVariants as aims
 use Rattle.au_outcomes.specs.declared.outcomes.Outcome.{Outcome}
 use Rattle.au_outcomes.specs.declared.outcomes.Outcome.TheVariants as outcome

@@ -7,8 +7,9 @@ use Rattle.au_base.specs.declared.statuses.Status.TheVariants as status
 use Rattle.au_base.specs.Outside.{Files}
 use Rattle.au_format.specs.Layout.{IsLayout}
 use Rattle.au_outcomes.specs.Layouts.{AreLaid}
-use Rattle.au_outcomes.specs.Outcomes.{AreFiles, Comes, HasLayout}
-use Rattle.au_outcomes.specs.Trees.{AreRead, ReadFile}
+use Rattle.au_accepted.specs.Files.{AreFiles}
+use Rattle.au_outcomes.specs.Outcomes.{Comes, HasLayout}
+use Rattle.au_accepted.specs.Trees.{AreRead, ReadFile}
 use Rattle.au_outcomes.specs.declared.outcomes.Aim.TheVariants as aims
 use Rattle.au_outcomes.specs.declared.outcomes.Outcome.{Outcome}
 use Rattle.au_outcomes.specs.declared.outcomes.Outcome.TheVariants as outcome

@@ -5,9 +5,9 @@ use Rattle.au_syntax.specs.Plain.{Bytes}
 use Rattle.au_modules.specs.Programs.{ModuleParts}
 use Rattle.au_modules.specs.Slots as slots
 use Rattle.au_judged_programs.specs.Sound.{AcceptedProgramsAreSound}
-use Rattle.au_outcomes.specs.Accepted.{AreAcceptedAs}
-use Rattle.au_outcomes.specs.Programs.{program_modules}
-use Rattle.au_outcomes.specs.Trees.{ReadFile}
+use Rattle.au_accepted.specs.Accepted.{AreAcceptedAs}
+use Rattle.au_accepted.specs.Programs.{program_modules}
+use Rattle.au_accepted.specs.Trees.{ReadFile}
 use Rattle.au_outcomes.specs.declared.outcomes.Aim.TheVariants as aims
 use Rattle.au_outcomes.specs.declared.outcomes.Outcome.{Outcome}
 use Rattle.au_outcomes.specs.declared.outcomes.Outcome.TheVariants as outcome

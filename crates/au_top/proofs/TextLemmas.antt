@@ -21,10 +21,11 @@ use Rattle.au_running.specs.Closed.{code_of}
 use Rattle.au_running.specs.Ran.{HasNoEntry, IsLowered}
 use Rattle.au_running.specs.declared.coding.Uncoded.{Uncoded}
 use Rattle.au_running.specs.declared.coding.Uncoded.TheVariants as uncoded
-use Rattle.au_outcomes.specs.Accepted.{Accepted, AreAcceptedAs, is_behind}
-use Rattle.au_outcomes.specs.Outcomes.{Comes}
-use Rattle.au_outcomes.specs.Programs.{CompileComes, program_modules}
-use Rattle.au_outcomes.specs.Trees.{ReadFile}
+use Rattle.au_accepted.specs.Accepted.{Accepted, AreAcceptedAs}
+use Rattle.au_outcomes.specs.Outcomes.{Comes, is_behind}
+use Rattle.au_accepted.specs.Programs.{program_modules}
+use Rattle.au_outcomes.specs.Programs.{CompileComes}
+use Rattle.au_accepted.specs.Trees.{ReadFile}
 use Rattle.au_outcomes.specs.declared.outcomes.Aim.TheVariants as aims
 use Rattle.au_outcomes.specs.declared.outcomes.Outcome.{Outcome}
 use Rattle.au_outcomes.specs.declared.outcomes.Outcome.TheVariants as outcome

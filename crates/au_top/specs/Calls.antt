@@ -16,9 +16,8 @@ use Rattle.au_modules.specs.Programs.{ModuleParts}
 use Rattle.au_modules.specs.Slots as slots
 use Rattle.au_typing.specs.Trees.{NotedParts}
 use Rattle.au_words.specs.Jobs.{Task, IsJob}
-use Rattle.au_outcomes.specs.Accepted.{is_behind}
+use Rattle.au_outcomes.specs.Outcomes.{Comes, is_behind}
 use Rattle.au_outcomes.specs.Halts.{AreTold, StopsIn}
-use Rattle.au_outcomes.specs.Outcomes.{Comes}
 use Rattle.au_top.specs.Dues.{Due, IsCompile, IsRun, Owes, Arises, due_line, due_of, reported_due}
 use Rattle.au_top.specs.Runs.{BreaksOff, EndsAsRun, IsTold, Run, Runs, entry_of, line_of, run_of}
 use Rattle.au_top.specs.Streams.{Gains, GainsFront, HasFailed, HasStayed, NeverFailed, Streams}

@@ -10,8 +10,9 @@ use Rattle.au_outcomes.specs.Report.{Report}
 use Rattle.au_words.specs.Jobs.{Task, IsJob, IsNoJob}
 use Rattle.au_words.specs.declared.jobs.Command.TheVariants as command
 use Rattle.au_outcomes.specs.Lines.{words_line, accepted_line, missing_line, limit_line, refusal_line}
-use Rattle.au_outcomes.specs.Accepted.{Accepted, judges}
-use Rattle.au_outcomes.specs.Outcomes.{AreFiles, Comes, most_files}
+use Rattle.au_accepted.specs.Accepted.{Accepted}
+use Rattle.au_outcomes.specs.Outcomes.{Comes, judges}
+use Rattle.au_accepted.specs.Files.{AreFiles, most_files}
 use Rattle.au_outcomes.specs.Trees.{HasNoTree, HasTokens}
 use Rattle.au_outcomes.specs.declared.outcomes.Outcome.{Outcome}
 use Rattle.au_outcomes.specs.declared.outcomes.Outcome.TheVariants as outcome

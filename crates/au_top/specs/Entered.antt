@@ -8,9 +8,9 @@ use Rattle.au_running.specs.Programs.{ClosedProgram}
 use Rattle.au_running.specs.Closed.{is_too_long}
 use Rattle.au_modules.specs.Programs.{ModuleParts}
 use Rattle.au_typing.specs.Trees.{NotedParts}
-use Rattle.au_outcomes.specs.Accepted.{AreAcceptedAs}
-use Rattle.au_outcomes.specs.Programs.{program_modules}
-use Rattle.au_outcomes.specs.Trees.{ReadFile}
+use Rattle.au_accepted.specs.Accepted.{AreAcceptedAs}
+use Rattle.au_accepted.specs.Programs.{program_modules}
+use Rattle.au_accepted.specs.Trees.{ReadFile}
 use Rattle.au_running.specs.Ran.{HasNoEntry}
 use Rattle.au_top.specs.Runs.{Run, entry_for, run_of}
 

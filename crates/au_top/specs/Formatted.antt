@@ -4,8 +4,8 @@ use Rattle.au_base.specs.Outside.{Files}
 use Rattle.au_format.specs.Layout.{IsLayout}
 use Rattle.au_words.specs.Jobs.{Task, IsJob}
 use Rattle.au_words.specs.declared.jobs.Command.TheVariants as command
-use Rattle.au_outcomes.specs.Outcomes.{IsFile}
-use Rattle.au_outcomes.specs.Trees.{IsRead, ReadFile}
+use Rattle.au_accepted.specs.Files.{IsFile}
+use Rattle.au_accepted.specs.Trees.{IsRead, ReadFile}
 
 -- The words are a job `format` of the file of this name.
 abbrev pub IsFormat : List (List ℕ) → List ℕ → Type 0

@@ -3,9 +3,10 @@ use Rattle.std.specs.Prelude.{◌≡◌, ◌≢◌, ◌↔◌, ◌⊎◌, ℕ, f
 use Rattle.au_base.specs.declared.statuses.Status.TheVariants as status
 use Rattle.au_base.specs.Outside.{Files, HasRisen}
 use Rattle.au_words.specs.Jobs.{IsNoJob, Task}
-use Rattle.au_outcomes.specs.Accepted.{Accepted, AreAcceptedAs}
-use Rattle.au_outcomes.specs.Programs.{program_modules, read_lives}
-use Rattle.au_outcomes.specs.Trees.{ReadFile}
+use Rattle.au_accepted.specs.Accepted.{Accepted, AreAcceptedAs}
+use Rattle.au_accepted.specs.Programs.{program_modules}
+use Rattle.au_outcomes.specs.Programs.{read_lives}
+use Rattle.au_accepted.specs.Trees.{ReadFile}
 use Rattle.au_low.specs.declared.code.Code.{Code}
 use Rattle.au_running.specs.Closed.{code_of}
 use Rattle.au_running.specs.declared.coding.Uncoded.{Uncoded}

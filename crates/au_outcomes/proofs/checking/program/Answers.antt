@@ -8,7 +8,8 @@ use Rattle.std.proofs.lemmas.Result.{err_from_is_err_and}
 use Rattle.au_base.specs.Limits.{most_file_bytes}
 use Rattle.au_outcomes.specs.declared.outcomes.Outcome.{Outcome}
 use Rattle.au_outcomes.specs.Halts.{ComesTo, bytes_in}
-use Rattle.au_outcomes.specs.Outcomes.{BytesCome, most_files}
+use Rattle.au_accepted.specs.Files.{most_files}
+use Rattle.au_outcomes.specs.Outcomes.{BytesCome}
 use Rattle.au_outcomes.proofs.ComesLemmas.{bytes_come, few_come, halts_with, many_come, no_miss, read_with, says_map}
 use Rattle.au_outcomes.proofs.FetchLemmas.{are_small, fetched_length}
 use Rattle.au_outcomes.proofs.checking.program.Goals as goal

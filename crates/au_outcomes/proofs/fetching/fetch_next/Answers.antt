@@ -2,7 +2,7 @@
 use Rattle.std.proofs.Common.{◌∙◌, ap, sym, ℕ, Vec}
 use Rattle.std.specs.Global.{Global}
 use Rattle.au_outcomes.specs.Halts.{IsUnhad, Tells}
-use Rattle.au_outcomes.specs.Outcomes.{IsFile}
+use Rattle.au_accepted.specs.Files.{IsFile}
 use Rattle.au_outcomes.specs.declared.outcomes.Outcome.{Outcome}
 use Rattle.au_outcomes.proofs.ComesLemmas.{says_map}
 use Rattle.au_outcomes.proofs.FetchLemmas.{found_before, found_new}

@@ -3,7 +3,7 @@ use Rattle.std.proofs.Common.{◌++◌, map, refl}
 use Rattle.std.proofs.lemmas.Result.{err_from_is_err_and}
 use Rattle.au_modules.specs.Programs.{entry}
 use Rattle.au_modules.specs.Slots as slots
-use Rattle.au_outcomes.specs.Programs.{shipped_entries}
+use Rattle.au_accepted.specs.Programs.{shipped_entries}
 use Rattle.au_outcomes.proofs.JudgeLemmas.{gather_halts, program_says}
 use Rattle.au_outcomes.proofs.judging.judge.Goals as goal
 

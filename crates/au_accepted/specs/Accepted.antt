@@ -1,22 +1,18 @@
 -- Which files are accepted: those of a program that the written rules derive, and whose variables have good
 -- lives.
-use Rattle.std.specs.Prelude.{ℕ, ◌≤◌, Bool, true, false, List, length}
+use Rattle.std.specs.Prelude.{ℕ, ◌≤◌, List, length}
 use Rattle.au_base.specs.Outside.{Files}
 use Rattle.au_classes.specs.Good.{InstancesAreGood}
 use Rattle.au_typing.specs.Trees.{NotedParts}
 use Rattle.au_modules.specs.Accepted.{IsProgram}
 use Rattle.au_imports.specs.Good.{AllNamesAreGood}
-use Rattle.au_explain.specs.Faults.{IsDerived}
+use Rattle.au_noting_programs.specs.Faults.{IsDerived}
 use Rattle.au_program_lives.specs.Good.{AllLivesAreGood}
 use Rattle.au_promises.specs.Fulfilled.{AllFulfil}
 use Rattle.au_rules.specs.Good.{AllDeclarationsAreGood}
-use Rattle.au_outcomes.specs.Outcomes.{AreFiles, most_files}
-use Rattle.au_outcomes.specs.Programs.{program_files, program_modules}
-use Rattle.au_outcomes.specs.Trees.{AreRead, ReadFile}
-use Rattle.au_outcomes.specs.declared.outcomes.Aim.{Aim}
-use Rattle.au_outcomes.specs.declared.outcomes.Aim.TheVariants as aims
-use Rattle.au_outcomes.specs.declared.outcomes.Outcome.{Outcome}
-use Rattle.au_outcomes.specs.declared.outcomes.Outcome.TheVariants as outcome
+use Rattle.au_accepted.specs.Files.{AreFiles, most_files}
+use Rattle.au_accepted.specs.Programs.{program_files, program_modules}
+use Rattle.au_accepted.specs.Trees.{AreRead, ReadFile}
 
 -- Files of these names are accepted, with these bytes and as these trees: they are as few as they may be.
 -- They have these bytes, and none is too large. Each is cut into tokens that are the words of its tree,
@@ -39,26 +35,3 @@ pub record AreAcceptedAs (files : Files) (names all : List (List ℕ)) (reads : 
 -- The files of these names are accepted.
 abbrev pub Accepted : Files → List (List ℕ) → Type 0
 Accepted files names = (all : List (List ℕ)) × (reads : List ReadFile) × AreAcceptedAs files names all reads
-
--- whether files of which this is asked are judged as those of a program: they aren't where they are laid out
-abbrev pub judges : Aim → Bool
-judges aims.Run = true
-judges aims.Compile = true
-judges aims.Check = true
-judges aims.Explain = true
-judges aims.Format = false
-judges aims.Caps = true
-
--- whether files come to this behind the steps that judge whether they are accepted: that is told, or the
--- lives of its variables are, or what it can do with capabilities, or the program is to run or to be compiled
-abbrev pub is_behind : Outcome → Bool
-is_behind outcome.NoJob = false
-is_behind (outcome.Missing name) = false
-is_behind (outcome.Passes limit) = false
-is_behind (outcome.Refused refusal) = false
-is_behind outcome.Accepted = true
-is_behind (outcome.Explained lives) = true
-is_behind (outcome.Laid text) = false
-is_behind (outcome.Reported report) = true
-is_behind (outcome.Runs program) = true
-is_behind (outcome.Compiles program) = true

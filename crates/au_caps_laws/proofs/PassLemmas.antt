@@ -1,0 +1,226 @@
+-- What is passed in the ways in which functions are called, and what is returned, is listed.
+use Rattle.std.proofs.Common.{◌≡◌, inl, inr, ℕ, suc, List, [], ◌∷◌, map, Option, None, Some, refl, sym, ap, subst}
+use Rattle.au_syntax.specs.declared.modules.Part.TheVariants.{Body}
+use Rattle.au_syntax.specs.Plain.{Bytes}
+use Rattle.au_syntax.specs.Types.{Labelled, WrittenType}
+use Rattle.au_types.specs.Types.{Meaning, integer, parameter, unit}
+use Rattle.au_matching.specs.Bindings.{Bindings}
+use Rattle.au_matching.specs.Substituted.{substituted}
+use Rattle.au_matching.proofs.SubstitutedLemmas.{each_so}
+use Rattle.au_type_texts.specs.Closing.{closed}
+use Rattle.au_type_texts.specs.Given.{Given, closed_under, given_for}
+use Rattle.au_type_texts.specs.Types as closed_types
+use Rattle.au_type_texts.specs.Types.{ClosedType}
+use Rattle.au_meaning.specs.Meanings.{begun, call_at, first_world, mean, parameters_of, seen}
+use Rattle.au_meaning.specs.Ticks.{Out, aborts, cut, gives, no_rule}
+use Rattle.au_meaning.specs.Views.{Function}
+use Rattle.au_meaning.specs.Worlds.{Value}
+use Rattle.au_running_types.specs.Running.{running}
+use Rattle.au_running_types.proofs.ClosedLemmas.{type_closes}
+use Rattle.au_written_types.specs.Written.{IsRegionName, IsTypeName}
+use Rattle.au_written_types.proofs.MeantLemmas.{meant_written}
+use Rattle.au_judged_types.specs.Meanings.{written_params}
+use Rattle.au_modules.specs.Programs.{ModuleParts}
+use Rattle.au_names.specs.HeadsOf.{heads_of}
+use Rattle.au_names.proofs.AmongLemmas.{Among, among, contains}
+use Rattle.au_typing.specs.Notes.{Note}
+use Rattle.au_typing.specs.Parts.{borrow_type}
+use Rattle.au_typing.specs.Trees.{NotedParts}
+use Rattle.au_typing.specs.Written.{types_at}
+use Rattle.au_closing.specs.Bodies.{BodyOf}
+use Rattle.au_closing.specs.Instances.{Instance}
+use Rattle.au_closed_meanings.specs.Generic.{generic_functions}
+use Rattle.au_safe_ships.specs.Making.{values_of}
+use Rattle.au_tables.specs.Tables.{types_of}
+use Rattle.au_owners.specs.Owners.{owner_of}
+use Rattle.au_accepted.specs.Programs.{program_modules}
+use Rattle.au_sound_blocks.specs.Blocks.{AllRun}
+use Rattle.au_sound_blocks.specs.Held.{Permits}
+use Rattle.au_judged_bodies.specs.Keys.{Key, meant_or_unit, ways, written_running}
+use Rattle.au_judged_bodies.specs.StandingTypesStanding.{StandsFor}
+use Rattle.au_judged_programs.specs.CheckedChecked.{IsChecked}
+use Rattle.au_judged_programs.specs.Judged.{AreCovered}
+use Rattle.au_judged_programs.proofs.BirthLemmas.{checked_typed}
+use Rattle.au_judged_programs.proofs.EntryLemmas.{entry_way}
+use Rattle.au_judged_programs.proofs.FitLemmas.{accepted_checked}
+use Rattle.au_judged_programs.proofs.JudgedLemmas.{programs_judged}
+use Rattle.au_judged_programs.proofs.SoundEntriesCallLemmas.{calls_of_programs}
+use Rattle.au_sound.specs.Runs.{IsEntry, IsSeenWell, RunsAreSafe}
+use Rattle.au_sound.proofs.WireLemmas.{runs_are_safe}
+use Rattle.au_caps_lists.specs.Bodies.{Bodied, params_of}
+use Rattle.au_caps_lists.specs.Holding.{Hands, Holds}
+use Rattle.au_caps_laws.specs.Births.{run_as}
+use Rattle.au_caps_laws.specs.Passing.{AcceptedCallsAreListed, AreBoundedBy, CallsAreListed, IsBoundedBy, LetsPass}
+use Rattle.au_caps_laws.specs.Reach.{ClosedReaches, IsReachedOrGiven, declared_in, meant_among}
+use Rattle.au_caps_laws.specs.Watching.{Watch, watched_at, watched_mean}
+use Rattle.au_caps_laws.proofs.AlikeLemmas.{IsOne, IsStuck, means_alike}
+use Rattle.au_caps_laws.proofs.ReachLemmas.{parameters_held, result_handed}
+use Rattle.au_caps_laws.proofs.RunForLemmas.{run_there}
+use Rattle.au_caps_laws.proofs.WatchLemmas.{Passes, Returns, watched_well}
+
+-- what is seen well isn't stuck
+no_stuck : (owner : ClosedType → Option (List ℕ)) (ticks : ℕ) (out : Out Value) → IsStuck out
+    → IsSeenWell owner (seen ticks out) → ⊥
+no_stuck owner ticks (gives v w left) none well = none
+no_stuck owner ticks (aborts fault w left) none well = none
+no_stuck owner ticks (cut w) none well = none
+no_stuck owner ticks (no_rule w left) none well = well.ended
+
+module _ (program : List ModuleParts) (b : Bodied) (given : Given) (s : Bindings)
+    (stands : StandsFor (heads_of program) (params_of b) given s) where
+  -- a type that is written closes, where it runs, to what it closes to under what is given
+  closes : (w : WrittenType) (t : Meaning) → meant_among program b given [] w ≡ Some t
+      → closed (running s 0 t) ≡ Some (closed_under given t)
+  closes w t is =
+      type_closes s 0 given t
+      (each_so (IsTypeName (params_of b)) (λ name. closed (substituted s (parameter name)) ≡ Some (given_for given name))
+      (IsRegionName [] (params_of b)) (λ name. Unit {0}) stands.closes (λ name region. tt) t
+      (meant_written [] (params_of b) (types_at program b.place Body) (heads_of program) w t is).names)
+
+  -- it is listed where what it reaches is
+  written_listed : (Lists : Bytes → Type 0) (w : WrittenType)
+      → ((t : Meaning) → meant_among program b given [] w ≡ Some t → (h : Bytes)
+      → ClosedReaches program (closed_under given t) h → IsReachedOrGiven program given Lists h)
+      → IsBoundedBy program given Lists (written_running program (run_as b) s w)
+  unfolding declared_in
+  written_listed Lists w reached = by (meant_among program b given [] w) refl
+    where
+      by : (o : Option Meaning) → meant_among program b given [] w ≡ o
+          → IsBoundedBy program given Lists (written_running program (run_as b) s w)
+      by None is =
+          subst (λ o. IsBoundedBy program given Lists (running s 0 (meant_or_unit o))) (sym is)
+          (closed_types.unit, refl, λ h (a, there, its). absurd (among [] a there))
+      by (Some t) is =
+          subst (λ o. IsBoundedBy program given Lists (running s 0 (meant_or_unit o))) (sym is)
+          (closed_under given t, closes w t is, reached t is)
+
+  parameters_listed : (ps : List (Labelled Bytes)) → ((f : Labelled Bytes) → Among f ps → Among f b.header.parameters)
+      → AreBoundedBy program given (Holds program b)
+      (map (λ (p : Labelled Bytes). written_running program (run_as b) s p.of) ps)
+  parameters_listed [] more = tt
+  parameters_listed (p ∷ rest) more = (
+    written_listed (Holds program b) p.of
+        (parameters_held program b given p (contains b.header.parameters p (more p (inl refl)))),
+    parameters_listed rest (λ f there. more f (inr there)),
+  )
+
+  result_listed : IsBoundedBy program given (Hands program b) (written_running program (run_as b) s b.header.result)
+  result_listed = written_listed (Hands program b) b.header.result (result_handed program b given)
+
+module _ (program : List ModuleParts) (noted : List NotedParts) where
+  -- what is of the types of parameters in a way in which a function is called is held by it
+  way_held : (key : Key program noted) (b : Bodied) → run_as b ≡ key.body
+      → AreBoundedBy program key.one.given (Holds program b) ((ways program noted).parameters key)
+  way_held key b same =
+      subst (λ (body : BodyOf). AreBoundedBy program key.one.given (Holds program b)
+      (map (λ (p : Labelled Bytes). written_running program body key.s p.of) body.header.parameters)) same
+      (parameters_listed program b key.one.given key.s
+      (subst (λ (body : BodyOf). StandsFor (heads_of program) (written_params body.generics) key.one.given key.s) (sym same)
+      key.stands) b.header.parameters (λ f there. there))
+
+  way_handed : (key : Key program noted) (b : Bodied) → run_as b ≡ key.body
+      → IsBoundedBy program key.one.given (Hands program b) ((ways program noted).result key)
+  way_handed key b same =
+      subst (λ (body : BodyOf). IsBoundedBy program key.one.given (Hands program b)
+      (written_running program body key.s body.header.result)) same
+      (result_listed program b key.one.given key.s
+      (subst (λ (body : BodyOf). StandsFor (heads_of program) (written_params body.generics) key.one.given key.s) (sym same)
+      key.stands))
+
+  -- all is permitted
+  abbrev anything : Permits (Key program noted) (Key program noted × Meaning)
+  anything = record { way = λ one. one.0; type = λ one. one.1 }
+
+  all_covered : AreCovered program noted anything
+  all_covered key = record {
+    integers = λ kind s stands. ((key, running s 0 (integer kind)), refl, refl);
+    references = λ mode region t of lent held s stands. ((key, running s 0 (borrow_type mode region of)), refl, refl);
+    given = λ p there t is s stands. ((key, running s 0 t), refl, refl);
+    written = λ w there sc outside generics t is s stands. ((key, running s 0 t), refl, refl);
+  }
+
+  module _ (watch : Watch Instance) (lets : LetsPass program noted watch) (first : Instance → ℕ)
+      (checked : IsChecked program noted) where
+    abbrev functions : Instance → Option (Function Instance Note (Unit {0}))
+    functions = generic_functions program noted first
+
+    safe : RunsAreSafe (types_of program) (owner_of program)
+    safe = runs_are_safe (types_of program) (owner_of program) (checked_typed program noted checked)
+
+    judged : AllRun (types_of program) (owner_of program) anything (ways program noted) functions
+    judged =
+        programs_judged program noted (owner_of program) anything checked (calls_of_programs program noted checked)
+        all_covered first
+
+    passes : Passes (types_of program) (owner_of program) anything safe (ways program noted) functions judged watch
+    passes key acts fs sizes made under w typed state held =
+        let its = run_there program noted key.one.of key.body key.there in
+        lets.passed key.one (values_of made) w (record {
+          key = key;
+          called = refl;
+          typed = record {
+            made = made;
+            are = refl;
+            have = typed;
+            acts = acts;
+            frames = fs;
+            sizes = sizes;
+            under = under;
+            state = state;
+          };
+          body = its.0;
+          runs = its.1.run;
+          listed = way_held key its.0 its.2;
+        })
+
+    returns : Returns (types_of program) (owner_of program) anything safe (ways program noted) functions judged watch
+    returns key acts fs sizes under v w state held =
+        let its = run_there program noted key.one.of key.body key.there in
+        lets.returned key.one v w (record {
+          key = key;
+          called = refl;
+          typed = record {
+            made = (v, (ways program noted).result key) ∷ [];
+            are = refl;
+            have = refl;
+            acts = acts;
+            frames = fs;
+            sizes = sizes;
+            under = under;
+            state = state;
+          };
+          body = its.0;
+          runs = its.1.run;
+          listed = way_handed key its.0 its.2;
+        })
+
+    -- a run from a way in which an entry is called is the same under a watch
+    way_same : (key : Key program noted)
+        → IsEntry (types_of program) (owner_of program) (ways program noted) functions key
+        → (input : List ℕ) (ticks : ℕ)
+        → watched_mean watch functions key.one input ticks ≡ mean functions key.one input ticks
+    way_same key entry input ticks = by (means_alike functions watch key.one input ticks)
+      where
+        well : IsSeenWell (owner_of program) (watched_mean watch functions key.one input ticks)
+        well =
+            watched_well (types_of program) (owner_of program) anything safe (ways program noted) functions judged watch
+            passes returns key entry input ticks
+
+        by : IsOne
+            (begun (parameters_of (functions key.one)) (watched_at watch functions (suc ticks) key.one) (first_world input)
+            ticks)
+            (begun (parameters_of (functions key.one)) (call_at functions (suc ticks) key.one) (first_world input) ticks)
+            → watched_mean watch functions key.one input ticks ≡ mean functions key.one input ticks
+        by (inl same) = ap (seen ticks) same
+        by (inr stuck) = absurd (no_stuck (owner_of program) ticks _ stuck well)
+
+  pub calls_listed : IsChecked program noted → CallsAreListed program noted
+  calls_listed checked watch lets first target entry input ticks =
+      let (key, called, its) = entry_way program noted checked target entry first in
+      subst (λ (one : Instance). watched_mean watch (generic_functions program noted first) one input ticks
+      ≡ mean (generic_functions program noted first) one input ticks) called
+      (way_same watch lets first checked key its input ticks)
+
+pub accepted_calls_listed : AcceptedCallsAreListed
+accepted_calls_listed files names all reads a =
+    calls_listed (program_modules reads) a.noted (accepted_checked files names all reads a)
