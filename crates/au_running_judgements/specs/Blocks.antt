@@ -26,6 +26,7 @@ use Rattle.au_meaning.specs.Views.{Field, Function, View}
 use Rattle.au_memory.specs.Loans.{Types}
 use Rattle.au_memory.specs.Forests.{empty, ready}
 use Rattle.au_running_judgements.specs.Expressions.{Borrows, IsNamed, IsOf, LooksInto, Reaches}
+use Rattle.au_running_judgements.specs.Held.{IsPermitted, Permits}
 use Rattle.au_running_judgements.specs.Known.{AreActive, Callables, InScope, with_token}
 use Rattle.au_running_judgements.specs.Lives.{AheadAll, put, put_each}
 use Rattle.au_safe_steps.specs.Binding.{bound_fields, field_names}
@@ -47,6 +48,18 @@ MayDrop types t =
     (types.is_free t ≡ true)
     ⊎ ((of : Meaning) × (region : Region) × (t ≡ writes of region)
     × ((region ≡ Static) ⊎ ((z : ℕ) × (region ≡ token z))))
+
+-- A name that is declared may be dropped where it is said so, and may hold values of its type.
+abbrev pub IsFine : Types → (loose : ℕ → Bool) → {V W : Type 0} → Permits V W → V → ℕ → Meaning → Type 0
+IsFine types loose permits key number t =
+    (loose number ≡ true → MayDrop types t) × IsPermitted permits key t
+
+-- so are names from one on
+abbrev pub AreFine : Types → (loose : ℕ → Bool) → {V W : Type 0} → Permits V W → V → ℕ → List Meaning
+    → Type 0
+AreFine types loose permits key number [] = Unit {0}
+AreFine types loose permits key number (t ∷ ts) =
+    IsFine types loose permits key number t × AreFine types loose permits key (suc number) ts
 
 -- one thing or another, by a fact
 abbrev pub Either : Bool → Type 0 → Type 0 → Type 0
@@ -71,9 +84,11 @@ AreTold active (to_write region) = InScope active region
 AreTold active (to_read region) = InScope active region
 
 -- what is known of types, of whose they are, of notes, of what may be called, of the type that the body
--- returns, and of which of its names hold what may be dropped
+-- returns, of which of its names hold what may be dropped, and of what names may hold in the way in which
+-- it is called
 module _ (types : Types) (owner : ClosedType → Option (List ℕ)) {I T C K : Type 0} (see : View I T C)
-    (known : Callables I K) (result : Meaning) (loose : ℕ → Bool) where
+    (known : Callables I K) (result : Meaning) (loose : ℕ → Bool) {V W : Type 0} (permits : Permits V W)
+    (key : V) where
   -- a whole expression is of a type, whichever new token it has: so `~` isn't in the type
   abbrev pub IsWholeOf : (ℕ → Bool) → Names → Scope → Expression Bytes T C → Meaning → Type 0
   IsWholeOf active names scope e t =
@@ -85,14 +100,6 @@ module _ (types : Types) (owner : ClosedType → Option (List ℕ)) {I T C K : T
       (types.fields of 0 ≡ Some kinds)
       × ((tag : ℕ) (others : List Meaning) → types.fields of tag ≡ Some others → tag ≡ 0)
 
-  -- a name that is declared may be dropped where it is said so
-  abbrev pub IsFine : ℕ → Meaning → Type 0
-  IsFine number t = loose number ≡ true → MayDrop types t
-
-  abbrev pub AreFine : ℕ → List Meaning → Type 0
-  AreFine number [] = Unit {0}
-  AreFine number (t ∷ ts) = IsFine number t × AreFine (suc number) ts
-
   -- These fields, of values of such types, are bound each once, by names from one on, which have these types.
   pub record AreBound (number : ℕ) (fields : List Field) (kinds : List Meaning)
       (binds : List (Bound Bytes)) : Type 0
@@ -102,7 +109,7 @@ module _ (types : Types) (owner : ClosedType → Option (List ℕ)) {I T C K : T
       pub each : IsReordered (bound_fields binds) (field_names fields)
       pub bound : List Meaning
       pub are : AreTypesUnder (bound_fields binds) (field_names fields) kinds bound
-      pub fine : AreFine number bound
+      pub fine : AreFine types loose permits key number bound
 
   -- A variable is lent, with whichever new token, which is active in the block that follows, and a name
   -- holds the reference.
@@ -110,7 +117,7 @@ module _ (types : Types) (owner : ClosedType → Option (List ℕ)) {I T C K : T
       → Type 0
   Lends active number m x names Block =
       (z : ℕ) → active z ≡ false → (of : Meaning)
-      × Borrows types owner see known names z active m x of × IsFine number of
+      × Borrows types owner see known names z active m x of × IsFine types loose permits key number of
       × Block (with_token z active) (put number of names)
 
   abbrev mutual
@@ -118,7 +125,8 @@ module _ (types : Types) (owner : ClosedType → Option (List ℕ)) {I T C K : T
     pub Runs : (ℕ → Bool) → ℕ → Scope → Statement Bytes T C → (Names → Type 0) → Names → Type 0
     Runs active number scope (skip at) Q names = Q names
     Runs active number scope (declare at binding x t e) Q names =
-        (of : Meaning) × IsWholeOf active names scope e of × IsFine number of × Q (put number of names)
+        (of : Meaning) × IsWholeOf active names scope e of × IsFine types loose permits key number of
+        × Q (put number of names)
     Runs active number scope (destructure at binds e) Q names =
         (fields : List Field) × (kinds : List Meaning) × (fields_noted see (note_of e) ≡ Some fields)
         × ((z : ℕ) → active z ≡ false → (of : Meaning)
@@ -148,7 +156,8 @@ module _ (types : Types) (owner : ClosedType → Option (List ℕ)) {I T C K : T
         IsWholeOf active names scope e type.truth × RunsAll active number scope block names × Q names
     Runs active number scope (for_loop at name first last block) Q names =
         (kind : IntKind) × IsWholeOf active names scope first (integer kind)
-        × IsWholeOf active names scope last (integer kind) × IsFine number (integer kind)
+        × IsWholeOf active names scope last (integer kind)
+        × IsFine types loose permits key number (integer kind)
         × RunsAll active (number + 1) (with_counter see number name.name first scope) block
         (put number (integer kind) names)
         × Q names
@@ -198,22 +207,23 @@ module _ (types : Types) (owner : ClosedType → Option (List ℕ)) {I T C K : T
 -- ---- functions
 
 -- A function may be run at a key: it has as many parameters, and its body runs, whichever tokens are active
--- besides those of the key, and returns on each way.
-pub record MayRun (types : Types) (owner : ClosedType → Option (List ℕ)) {I T C K : Type 0}
-    (known : Callables I K) (f : Function I T C) (key : K) : Type 0 where
+-- besides those of the key, and returns on each way. Its names hold what they may at the key.
+pub record MayRun (types : Types) (owner : ClosedType → Option (List ℕ)) {K W : Type 0}
+    (permits : Permits K W) {I T C : Type 0} (known : Callables I K) (f : Function I T C) (key : K) : Type 0
+    where
   pub many : length f.parameters ≡ length (known.parameters key)
   pub names : Names
   pub loose : ℕ → Bool
-  pub fine : AreFine types owner f.view known (known.result key) loose f.first (known.parameters key)
+  pub fine : AreFine types loose permits key f.first (known.parameters key)
   pub runs : (active : ℕ → Bool) → AreActive active (known.tokens key)
-      → RunsAll types owner f.view known (known.result key) loose active (f.first + length f.parameters)
-      (scope_of f)
-      f.body (with_types f.first (known.parameters key) names)
+      → RunsAll types owner f.view known (known.result key) loose permits key active
+      (f.first + length f.parameters) (scope_of f) f.body (with_types f.first (known.parameters key) names)
   pub ahead : AheadAll f.view loose (f.first + length f.parameters) (scope_of f) [] f.body (λ h. ⊥)
       (put_each f.first (length f.parameters) ready (λ k. empty))
 
 -- Each function that may be called is there, and may be run.
-abbrev pub AllRun : (types : Types) → (ClosedType → Option (List ℕ)) → {I T C K : Type 0} → Callables I K
-    → (I → Option (Function I T C)) → Type 0
-AllRun types owner {I} {T} {C} {K} known functions =
-    (key : K) → (f : Function I T C) × (functions (known.of key) ≡ Some f) × MayRun types owner known f key
+abbrev pub AllRun : (types : Types) → (ClosedType → Option (List ℕ)) → {K W : Type 0} → Permits K W
+    → {I T C : Type 0} → Callables I K → (I → Option (Function I T C)) → Type 0
+AllRun types owner {K} {W} permits {I} {T} {C} known functions =
+    (key : K) → (f : Function I T C) × (functions (known.of key) ≡ Some f)
+    × MayRun types owner permits known f key

@@ -22,4 +22,5 @@ pub mod Shipping
 pub mod Picking
 pub mod Expressions
 pub mod Lives
+pub mod Held
 pub mod Blocks

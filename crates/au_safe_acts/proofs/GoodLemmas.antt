@@ -8,39 +8,50 @@ use Rattle.au_frames.specs.Frames.{Frame}
 use Rattle.au_meaning.specs.Acts.{frame_in}
 use Rattle.au_meaning.specs.Ticks.{Action, Out, aborts, cut, follows, gives, needing, no_rule, tick, ticked}
 use Rattle.au_meaning.specs.Worlds.{Value, World}
-use Rattle.au_safe_acts.specs.Good.{Good, IsCutWell, IsRunning}
+use Rattle.au_safe_acts.specs.Good.{Good, GoodBy, IsRunning}
 
 -- ---- one action, and then another
 
-pub good_then : {A B : Type 0} (owner : ClosedType → Option (List ℕ)) (mid : A → World → Type 0)
-    (q : B → World → Type 0) (out : Out A) (go : A → Action B) → Good owner mid out
-    → ((a : A) (w : World) (left : ℕ) → mid a w → Good owner q (go a w left)) → Good owner q (follows out go)
+pub good_then : {A B : Type 0} (owner : ClosedType → Option (List ℕ)) (cuts : World → Type 0) (mid : A → World → Type 0)
+    (q : B → World → Type 0) (out : Out A) (go : A → Action B) → GoodBy owner cuts mid out
+    → ((a : A) (w : World) (left : ℕ) → mid a w → GoodBy owner cuts q (go a w left))
+    → GoodBy owner cuts q (follows out go)
 unfolding follows
-good_then owner mid q (gives a w left) go good next = next a w left good
-good_then owner mid q (aborts fault w left) go good next = good
-good_then owner mid q (cut w) go good next = good
-good_then owner mid q (no_rule w left) go good next = absurd good
+good_then owner cuts mid q (gives a w left) go good next = next a w left good
+good_then owner cuts mid q (aborts fault w left) go good next = good
+good_then owner cuts mid q (cut w) go good next = good
+good_then owner cuts mid q (no_rule w left) go good next = absurd good
 
 -- a tick, and then an action
-pub good_tick : {A : Type 0} (owner : ClosedType → Option (List ℕ)) (q : A → World → Type 0) (m : Action A) (w : World)
-    (ticks : ℕ) → IsCutWell owner w → ((left : ℕ) → Good owner q (m w left)) → Good owner q (tick m w ticks)
+pub good_tick : {A : Type 0} (owner : ClosedType → Option (List ℕ)) (cuts : World → Type 0) (q : A → World → Type 0)
+    (m : Action A) (w : World) (ticks : ℕ) → cuts w → ((left : ℕ) → GoodBy owner cuts q (m w left))
+    → GoodBy owner cuts q (tick m w ticks)
 unfolding ticked
-good_tick owner q m w zero told next = told
-good_tick owner q m w (suc left) told next = next left
+good_tick owner cuts q m w zero told next = told
+good_tick owner cuts q m w (suc left) told next = next left
 
 -- what is good in one way is in another
-pub good_so : {A : Type 0} (owner : ClosedType → Option (List ℕ)) (q r : A → World → Type 0) (out : Out A)
-    → ((a : A) (w : World) → q a w → r a w) → Good owner q out → Good owner r out
-good_so owner q r (gives a w left) so good = so a w good
-good_so owner q r (aborts fault w left) so good = good
-good_so owner q r (cut w) so good = good
-good_so owner q r (no_rule w left) so good = absurd good
+pub good_so : {A : Type 0} (owner : ClosedType → Option (List ℕ)) (cuts : World → Type 0) (q r : A → World → Type 0)
+    (out : Out A) → ((a : A) (w : World) → q a w → r a w) → GoodBy owner cuts q out → GoodBy owner cuts r out
+good_so owner cuts q r (gives a w left) so good = so a w good
+good_so owner cuts q r (aborts fault w left) so good = good
+good_so owner cuts q r (cut w) so good = good
+good_so owner cuts q r (no_rule w left) so good = absurd good
+
+-- what makes no tick is good whatever is asked of worlds where a run is cut
+pub good_uncut : {A : Type 0} (owner : ClosedType → Option (List ℕ)) (cuts : World → Type 0) (q : A → World → Type 0)
+    (out : Out A) → Good owner q out → GoodBy owner cuts q out
+good_uncut owner cuts q (gives a w left) good = good
+good_uncut owner cuts q (aborts fault w left) good = good
+good_uncut owner cuts q (cut w) good = absurd good
+good_uncut owner cuts q (no_rule w left) good = absurd good
 
 -- what is needed is there
-pub good_needing : {A B : Type 0} (owner : ClosedType → Option (List ℕ)) (q : B → World → Type 0) (o : Option A) (a : A)
-    (go : A → Action B) (w : World) (ticks : ℕ) → o ≡ Some a → Good owner q (go a w ticks)
-    → Good owner q (needing o go w ticks)
-good_needing owner q o a go w ticks is good = subst (λ x. Good owner q (needing x go w ticks)) (sym is) good
+pub good_needing : {A B : Type 0} (owner : ClosedType → Option (List ℕ)) (cuts : World → Type 0)
+    (q : B → World → Type 0) (o : Option A) (a : A) (go : A → Action B) (w : World) (ticks : ℕ) → o ≡ Some a
+    → GoodBy owner cuts q (go a w ticks) → GoodBy owner cuts q (needing o go w ticks)
+good_needing owner cuts q o a go w ticks is good =
+    subst (λ x. GoodBy owner cuts q (needing x go w ticks)) (sym is) good
 
 -- ---- the running frame
 

@@ -88,7 +88,7 @@ module _ (types : Types) (owner : ClosedType → Option (List ℕ)) (acts : List
         sized = state.sized;
         safe = done.2;
       } in
-      good_needing owner (λ (v : Value) n. IsIn types owner acts (f ∷ fs) sizes ((v, t) ∷ under) n)
+      good_needing owner _ (λ (v : Value) n. IsIn types owner acts (f ∷ fs) sizes ((v, t) ∷ under) n)
       (at (place_of x path w) w.store) done.0 pure w ticks there last
 
   pub moves_well : MovesWell types owner acts f fs sizes size under w ticks

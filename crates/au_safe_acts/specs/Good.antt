@@ -48,9 +48,14 @@ abbrev pub IsCutWell : (ClosedType → Option (List ℕ)) → World → Type 0
 IsCutWell owner w = IsOrderly owner w × IsExclusive w
 
 -- An action comes to something good: what it gives and the world that it leaves are so; or it aborts in a
--- world that was told well, or is cut in one that is as it should be. There is a rule for it.
+-- world that was told well, or is cut in one of which this holds. There is a rule for it.
+abbrev pub GoodBy : {A : Type 0} → (ClosedType → Option (List ℕ)) → (World → Type 0) → (A → World → Type 0)
+    → Out A → Type 0
+GoodBy owner cuts q (gives a w left) = q a w
+GoodBy owner cuts q (aborts fault w left) = IsOrderly owner w
+GoodBy owner cuts q (cut w) = cuts w
+GoodBy owner cuts q (no_rule w left) = ⊥
+
+-- So does one that makes no tick: it is never cut.
 abbrev pub Good : {A : Type 0} → (ClosedType → Option (List ℕ)) → (A → World → Type 0) → Out A → Type 0
-Good owner q (gives a w left) = q a w
-Good owner q (aborts fault w left) = IsOrderly owner w
-Good owner q (cut w) = IsCutWell owner w
-Good owner q (no_rule w left) = ⊥
+Good owner q out = GoodBy owner (λ w. ⊥) q out

@@ -19,15 +19,16 @@ use Rattle.au_meaning.specs.Statements.{Flow, and_then, empties, falls, returns,
 use Rattle.au_meaning.specs.Ticks.{Action, Out, aborts, cut, does, follows, gives, no_rule, pure, ◌>>=◌, ◌>>◌}
 use Rattle.au_meaning.specs.Views.{Function}
 use Rattle.au_meaning.specs.Worlds.{Value, World}
-use Rattle.au_safe_ships.specs.Good.{Good, IsIn, IsRunning, lying_in}
+use Rattle.au_safe_ships.specs.Good.{IsIn, IsRunning, lying_in}
 use Rattle.au_safe_ships.specs.Making.{values_of}
 use Rattle.au_safe_ships.proofs.GoodLemmas.{good_so, good_then}
-use Rattle.au_sound_blocks.specs.Blocks.{AllRun, MayDrop, MayRun, Names, with_types}
+use Rattle.au_sound_blocks.specs.Blocks.{AllRun, IsFine, MayRun, Names, with_types}
 use Rattle.au_sound_blocks.specs.Known.{AreActive, Callables}
 use Rattle.au_sound_blocks.specs.Lives.{IsOver, Standing, freed_each, put_each}
 use Rattle.au_sound_blocks.specs.Safe.{AllWait, CallsSafe, Waits, frame}
 use Rattle.au_sound_blocks.proofs.LeafLemmas.{good_where, length_values}
 use Rattle.au_sound_blocks.proofs.PickLemmas.{length_types}
+use Rattle.au_sound_blocks.proofs.WaitLemmas.{all_held}
 use Rattle.au_sound_blocks.proofs.WholeLemmas.{good_closing}
 use Rattle.au_sound_blocks.specs.Flows.{Going, Returned, tokens}
 use Rattle.au_sound_blocks.proofs.FormLemmas.{fine_each}
@@ -38,6 +39,7 @@ use Rattle.au_sound_blocks.proofs.StateLemmas.{Ends, loose_is}
 use Rattle.au_sound.specs.Runs.{RunsAreSafe}
 use Rattle.au_sound.proofs.CloseLemmas.{all_ended}
 use Rattle.au_sound.proofs.FrameLemmas.{held_each, last_size, length_more, length_names, typed_each}
+use Rattle.au_sound_blocks.specs.Held.{GoodHeld, Permits}
 
 -- names that are over when tokens have ended wait for none
 waits_over : (active : ℕ → Bool) (b : Bool) (h : Hold) → IsOver b h → Waits active h
@@ -49,11 +51,13 @@ freed_none : (zs : List ℕ) (h : Hold) → h ≡ empty → freed_each zs h ≡ 
 freed_none [] h is = is
 freed_none (z ∷ zs) h is = freed_none zs (freed z h) (ap (freed z) is)
 
-module _ (types : Types) (owner : ClosedType → Option (List ℕ)) (laws : RunsAreSafe types owner) {I T C K : Type 0}
+module _ (types : Types) (owner : ClosedType → Option (List ℕ)) {K W : Type 0} (permits : Permits K W)
+    (laws : RunsAreSafe types owner) {I T C : Type 0}
     (known : Callables I K) (invoke : I → List Value → Action Value)
-    (calls_safe : CallsSafe types owner known invoke) (depth : ℕ) (f : Function I T C) (key : K)
-    (may : MayRun types owner known f key) (acts : List Act) (fs : List Frame) (sizes : List ℕ) (made under : Made)
-    (active : AreActive (is_active acts) (known.tokens key)) (waiting : AllWait (is_active acts) fs)
+    (calls_safe : CallsSafe types owner permits known invoke) (depth : ℕ) (f : Function I T C) (key : K)
+    (may : MayRun types owner permits known f key) (acts : List Act) (fs : List Frame) (sizes : List ℕ)
+    (made under : Made)
+    (active : AreActive (is_active acts) (known.tokens key)) (waiting : AllWait permits (is_active acts) fs)
     (many : length sizes ≡ length fs) (typed : types_made made ≡ known.parameters key) where
   abbrev args : List Value
   args = values_of made
@@ -95,17 +99,17 @@ module _ (types : Types) (owner : ClosedType → Option (List ℕ)) (laws : Runs
 
   -- the frame goes on from its beginning
   began : (w : World) → IsIn types owner acts (frame_of f.first made ∷ fs) more_sizes under w
-      → Going types owner may.loose (known.result key) acts (lying_in w) fs more_sizes size []
+      → Going types owner permits key may.loose (known.result key) acts (lying_in w) fs more_sizes size []
       (f.first + length f.parameters) hold names under w
   began w state = record {
     waits = each_way (Waits (is_active acts)) f.first (length f.parameters) forest.ready (λ k. empty) tt (λ k. tt);
     clear = λ k from. each_after f.first (length f.parameters) k forest.ready (λ k. empty) from;
-    fine = subst (λ (c : ℕ). (k : ℕ) → may.loose k ≡ true
-        → (put_each f.first c forest.ready (λ j. empty) k ≡ empty) ⊎ MayDrop types (names k))
+    fine = subst (λ (c : ℕ). (k : ℕ) → (put_each f.first c forest.ready (λ j. empty) k ≡ empty)
+        ⊎ IsFine types may.loose permits key k (names k))
         (sym may.many)
-        (fine_each types owner laws.steps may.loose (known.result key) acts (lying_in w) fs more_sizes size running f.view
-        known invoke calls_safe waiting f.first (known.parameters key) (λ k. empty) may.names may.fine
-        (λ k is. inl refl));
+        (fine_each types owner permits laws.steps key may.loose (known.result key) acts (lying_in w) fs more_sizes size
+        running f.view known invoke calls_safe waiting f.first (known.parameters key) (λ k. empty) may.names may.fine
+        (λ k. inl refl));
     bottom = refl;
     state = laws.steps.renamed acts fs more_sizes under w hold (frame_of f.first made).type names given
         (subst (λ (h : Standing). IsIn types owner acts (frame h (frame_of f.first made).type ∷ fs) more_sizes under w)
@@ -130,42 +134,45 @@ module _ (types : Types) (owner : ClosedType → Option (List ℕ)) (laws : Runs
 
   abbrev Done : World → Value → World → Type 0
   Done w v n =
-      Returned types owner may.loose (known.result key) acts (lying_in w) fs more_sizes size under v n
+      Returned types owner permits key may.loose (known.result key) acts (lying_in w) fs more_sizes size under v n
 
   body_good : (w : World) (ticks : ℕ) → IsIn types owner acts (frame_of f.first made ∷ fs) more_sizes under w
-      → Good owner (Done w)
+      → GoodHeld types owner permits (Done w)
       ((run_block f.view invoke depth (f.first + length f.parameters) (scope_of f) f.body >>= returned) w ticks)
   body_good w ticks state =
-      let q = Ends types owner laws.steps may.loose (known.result key) acts (lying_in w) fs more_sizes size running []
-      (f.first + length f.parameters) (f.first + length f.parameters) names (λ h. ⊥) (λ ns. Unit {0}) under in
-      good_then owner q (Done w)
+      let q = Ends types owner permits laws.steps key may.loose (known.result key) acts (lying_in w) fs more_sizes size
+      running [] (f.first + length f.parameters) (f.first + length f.parameters) names (λ h. ⊥) (λ ns. Unit {0}) under
+      in
+      good_then owner _ q (Done w)
       (run_block f.view invoke depth (f.first + length f.parameters) (scope_of f) f.body w ticks) returned
-      (good_then owner
-      (Ends types owner laws.steps may.loose (known.result key) acts (lying_in w) fs more_sizes size running []
-      (f.first + length f.parameters) ((f.first + length f.parameters) + names_in_block f.body) names (λ h. ⊥)
+      (good_then owner _
+      (Ends types owner permits laws.steps key may.loose (known.result key) acts (lying_in w) fs more_sizes size running
+      [] (f.first + length f.parameters) ((f.first + length f.parameters) + names_in_block f.body) names (λ h. ⊥)
       (λ ns. Unit {0}) under) q
       (run_all f.view invoke depth (f.first + length f.parameters) (scope_of f) f.body w ticks)
       (and_then (empties (f.first + length f.parameters) (names_in_block f.body)))
-      (all_safe types owner laws.steps may.loose (known.result key) acts (lying_in w) fs more_sizes size running f.view known
-      invoke calls_safe waiting depth f.body (f.first + length f.parameters) (scope_of f) [] (λ h. ⊥) hold names under w
-      ticks may.ahead (may.runs (is_active acts) active) (omega arith) (began w state)) ends)
-      gave
+      (all_safe types owner permits laws.steps key may.loose (known.result key) acts (lying_in w) fs more_sizes size
+      running f.view known invoke calls_safe waiting depth f.body (f.first + length f.parameters) (scope_of f) []
+      (λ h. ⊥) hold names under w ticks may.ahead (may.runs (is_active acts) active) (omega arith) (began w state))
+      ends) gave
     where
       ends : (flow : Flow) (n : World) (left : ℕ)
-          → Ends types owner laws.steps may.loose (known.result key) acts (lying_in w) fs more_sizes size running []
+          → Ends types owner permits laws.steps key may.loose (known.result key) acts
+          (lying_in w) fs more_sizes size running []
           (f.first + length f.parameters) ((f.first + length f.parameters) + names_in_block f.body) names (λ h. ⊥)
           (λ ns. Unit {0}) under flow n
-          → Good owner
-          (Ends types owner laws.steps may.loose (known.result key) acts (lying_in w) fs more_sizes size running []
-          (f.first + length f.parameters) (f.first + length f.parameters) names (λ h. ⊥) (λ ns. Unit {0}) under)
-          (and_then (empties (f.first + length f.parameters) (names_in_block f.body)) flow n left)
+          → GoodHeld types owner permits
+          (Ends types owner permits laws.steps key may.loose (known.result key) acts (lying_in w) fs more_sizes size
+          running [] (f.first + length f.parameters) (f.first + length f.parameters) names (λ h. ⊥) (λ ns. Unit {0})
+          under) (and_then (empties (f.first + length f.parameters) (names_in_block f.body)) flow n left)
       ends falls n left fell = absurd fell.ahead
       ends (returns v) n left gone = gone
 
       gave : (flow : Flow) (n : World) (left : ℕ)
-          → Ends types owner laws.steps may.loose (known.result key) acts (lying_in w) fs more_sizes size running []
+          → Ends types owner permits laws.steps key may.loose (known.result key) acts
+          (lying_in w) fs more_sizes size running []
           (f.first + length f.parameters) (f.first + length f.parameters) names (λ h. ⊥) (λ ns. Unit {0}) under flow n
-          → Good owner (Done w) (returned flow n left)
+          → GoodHeld types owner permits (Done w) (returned flow n left)
       gave falls n left fell = absurd fell.ahead
       gave (returns v) n left gone = gone
 
@@ -176,42 +183,45 @@ module _ (types : Types) (owner : ClosedType → Option (List ℕ)) (laws : Runs
       (ends_frame (closed_to (length (lying_in w)) n))
       × (lying_in (ends_frame (closed_to (length (lying_in w)) n)) ≡ lying_in w)
   leaves w v n gone =
-      let over = all_ended types owner laws.steps.actions acts (lying_in w) fs more_sizes waiting gone.newest gone.own
-      gone.hold gone.names ((v, known.result key) ∷ under) n gone.going.bottom gone.going.state in
+      let over = all_ended types owner permits laws.steps.actions acts (lying_in w) fs more_sizes waiting gone.newest
+      gone.own gone.hold gone.names ((v, known.result key) ∷ under) n gone.going.bottom gone.going.state in
       let m = closed_to (length (lying_in w)) n in
-      let last : Going types owner may.loose (known.result key) acts (lying_in w) fs more_sizes size [] size
+      let last : Going types owner permits key may.loose (known.result key) acts (lying_in w) fs more_sizes size [] size
       (λ k. freed_each (tokens (gone.newest ∷ gone.own)) (gone.hold k)) gone.names ((v, known.result key) ∷ under)
       (closed_to (length (lying_in w)) n) = record {
         waits = λ k. waits_over (is_active acts) (may.loose k)
             (freed_each (tokens (gone.newest ∷ gone.own)) (gone.hold k)) (gone.over k);
         clear = λ k from. freed_none (tokens (gone.newest ∷ gone.own)) (gone.hold k) (gone.going.clear k from);
-        fine = λ k is. fine_on k (gone.going.fine k is);
+        fine = λ k. fine_on k (gone.going.fine k);
         bottom = over.1;
         state = over.0;
       } in
       let left = laws.left acts fs more_sizes ((v, known.result key) ∷ under) (closed_to (length (lying_in w)) n)
       laws.steps.actions.typed
       (frame (λ k. freed_each (tokens (gone.newest ∷ gone.own)) (gone.hold k)) gone.names) size
-      (λ k. loose_is types owner laws.steps may.loose (known.result key) acts (lying_in w) fs more_sizes size running [] size
-      (λ k. freed_each (tokens (gone.newest ∷ gone.own)) (gone.hold k)) gone.names ((v, known.result key) ∷ under)
-      (closed_to (length (lying_in w)) n) last k (gone.over k))
-      (λ k from. freed_none (tokens (gone.newest ∷ gone.own)) (gone.hold k) (gone.going.clear k from)) running.count over.0
+      (λ k. loose_is types owner permits laws.steps key may.loose (known.result key) acts (lying_in w) fs more_sizes
+      size running [] size (λ k. freed_each (tokens (gone.newest ∷ gone.own)) (gone.hold k)) gone.names
+      ((v, known.result key) ∷ under) (closed_to (length (lying_in w)) n) last k (gone.over k))
+      (λ k from. freed_none (tokens (gone.newest ∷ gone.own)) (gone.hold k) (gone.going.clear k from)) running.count
+      over.0
       in (
         subst (λ (xs : List ℕ). IsIn types owner acts fs xs ((v, known.result key) ∷ under)
             (ends_frame (closed_to (length (lying_in w)) n)))
-            (take_at sizes (length (new_names f.first (values_of made) (names_in_block f.body)) ∷ []) (length fs) many) left,
+            (take_at sizes (length (new_names f.first (values_of made) (names_in_block f.body)) ∷ []) (length fs)
+            many) left,
         over.1,
       )
     where
-      fine_on : (k : ℕ) → (gone.hold k ≡ empty) ⊎ MayDrop types (gone.names k)
-          → (freed_each (tokens (gone.newest ∷ gone.own)) (gone.hold k) ≡ empty) ⊎ MayDrop types (gone.names k)
+      fine_on : (k : ℕ) → (gone.hold k ≡ empty) ⊎ IsFine types may.loose permits key k (gone.names k)
+          → (freed_each (tokens (gone.newest ∷ gone.own)) (gone.hold k) ≡ empty)
+          ⊎ IsFine types may.loose permits key k (gone.names k)
       fine_on k (inl is) = inl (freed_none (tokens (gone.newest ∷ gone.own)) (gone.hold k) is)
-      fine_on k (inr drops) = inr drops
+      fine_on k (inr fine) = inr fine
 
   -- what is done behind a body
   leave_good : (q : Value → World → Type 0) (out : Out Value)
-      → Good owner (λ (v : Value) n. q v (ends_frame n)) out
-      → Good owner q (follows out (λ v. does ends_frame >> pure v))
+      → GoodHeld types owner permits (λ (v : Value) n. q v (ends_frame n)) out
+      → GoodHeld types owner permits q (follows out (λ v. does ends_frame >> pure v))
   unfolding follows
   leave_good q (gives v n left) good = good
   leave_good q (aborts fault n left) good = good
@@ -219,7 +229,7 @@ module _ (types : Types) (owner : ClosedType → Option (List ℕ)) (laws : Runs
   leave_good q (no_rule n left) good = absurd good
 
   pub enters_good : (w : World) (ticks : ℕ) → IsIn types owner acts fs sizes (onto made under) w
-      → Good owner
+      → GoodHeld types owner permits
       (λ (v : Value) n. IsIn types owner acts fs sizes ((v, known.result key) ∷ under) n × (lying_in n ≡ lying_in w))
       (enters invoke depth (Some f) (values_of made) w ticks)
   enters_good w ticks state =
@@ -227,14 +237,14 @@ module _ (types : Types) (owner : ClosedType → Option (List ℕ)) (laws : Runs
       × (lying_in n ≡ lying_in w) in
       let w1 = begins (new_names f.first (values_of made) (names_in_block f.body)) w in
       let in_frame = laws.entered acts fs sizes under w f.first (names_in_block f.body) made many state in
-      good_where owner
+      good_where owner _
       (λ (v : Value) n. IsIn types owner acts fs sizes ((v, known.result key) ∷ under) n × (lying_in n ≡ lying_in w))
       (length (values_of made) == length f.parameters)
       (does (begins (new_names f.first (values_of made) (names_in_block f.body)))
       >> (closing (run_block f.view invoke depth (f.first + length (values_of made)) (scope_of f) f.body >>= returned)
       >>= (λ v. does ends_frame >> pure v))) w ticks
       (eq-eqb (length (values_of made)) (length f.parameters) count_args)
-      (good_does owner
+      (good_does owner _
       (λ (v : Value) n. IsIn types owner acts fs sizes ((v, known.result key) ∷ under) n × (lying_in n ≡ lying_in w))
       (begins (new_names f.first (values_of made) (names_in_block f.body)))
       (closing (run_block f.view invoke depth (f.first + length (values_of made)) (scope_of f) f.body >>= returned)
@@ -243,7 +253,7 @@ module _ (types : Types) (owner : ClosedType → Option (List ℕ)) (laws : Runs
       (λ (v : Value) n. IsIn types owner acts fs sizes ((v, known.result key) ∷ under) n × (lying_in n ≡ lying_in w))
       (closing (run_block f.view invoke depth (f.first + length (values_of made)) (scope_of f) f.body >>= returned)
       (begins (new_names f.first (values_of made) (names_in_block f.body)) w) ticks)
-      (subst (λ (c : ℕ). Good owner
+      (subst (λ (c : ℕ). GoodHeld types owner permits
       (λ (v : Value) n. IsIn types owner acts fs sizes ((v, known.result key) ∷ under) (ends_frame n)
       × (lying_in (ends_frame n) ≡ lying_in w))
       (closing (run_block f.view invoke depth (f.first + c) (scope_of f) f.body >>= returned)
@@ -251,17 +261,18 @@ module _ (types : Types) (owner : ClosedType → Option (List ℕ)) (laws : Runs
       (closed_good (begins (new_names f.first (values_of made) (names_in_block f.body)) w) ticks in_frame))))
     where
       closed_good : (m : World) (left : ℕ) → IsIn types owner acts (frame_of f.first made ∷ fs) more_sizes under m
-          → Good owner
+          → GoodHeld types owner permits
           (λ (v : Value) n. IsIn types owner acts fs sizes ((v, known.result key) ∷ under) (ends_frame n)
           × (lying_in (ends_frame n) ≡ lying_in m))
-          (closing (run_block f.view invoke depth (f.first + length f.parameters) (scope_of f) f.body >>= returned) m left)
+          (closing (run_block f.view invoke depth (f.first + length f.parameters) (scope_of f) f.body >>= returned) m
+          left)
       closed_good m left is =
           let counted = (laws.steps.actions.counted acts (frame_of f.first made ∷ fs) more_sizes under m).0 in
-          good_closing owner
+          good_closing owner _
           (λ (v : Value) n. IsIn types owner acts fs sizes ((v, known.result key) ∷ under) (ends_frame n)
           × (lying_in (ends_frame n) ≡ lying_in m))
           (run_block f.view invoke depth (f.first + length f.parameters) (scope_of f) f.body >>= returned) m left
-          (good_so owner (Done m)
+          (good_so owner _ (Done m)
           (λ (v : Value) n. IsIn types owner acts fs sizes ((v, known.result key) ∷ under)
           (ends_frame (closed_to (length m.borrows) n))
           × (lying_in (ends_frame (closed_to (length m.borrows) n)) ≡ lying_in m))
@@ -272,19 +283,30 @@ module _ (types : Types) (owner : ClosedType → Option (List ℕ)) (laws : Runs
 
 -- ---- calls in calls
 
-pub calls_at_safe : (types : Types) (owner : ClosedType → Option (List ℕ)) (laws : RunsAreSafe types owner)
-    {I T C K : Type 0} (known : Callables I K) (functions : I → Option (Function I T C))
-    → AllRun types owner known functions → (depth : ℕ) → CallsSafe types owner known (call_at functions depth)
+pub calls_at_safe : (types : Types) (owner : ClosedType → Option (List ℕ)) {K W : Type 0} (permits : Permits K W)
+    (laws : RunsAreSafe types owner)
+    {I T C : Type 0} (known : Callables I K) (functions : I → Option (Function I T C))
+    → AllRun types owner permits known functions → (depth : ℕ)
+    → CallsSafe types owner permits known (call_at functions depth)
 unfolding call_at
-calls_at_safe types owner laws known functions all zero key acts fs sizes made under w ticks active waiting many typed
-    state =
-    laws.steps.actions.told acts fs sizes (onto made under) w state
-calls_at_safe types owner laws known functions all (suc depth) key acts fs sizes made under w ticks active waiting many
-    typed state =
+calls_at_safe types owner permits laws known functions all zero key acts fs sizes made under w ticks active waiting many
+    typed state = (
+      laws.steps.actions.told acts fs sizes (onto made under) w state,
+      record {
+        acts = acts;
+        frames = fs;
+        sizes = sizes;
+        under = onto made under;
+        state = state;
+        held = all_held permits (is_active acts) fs waiting;
+      },
+    )
+calls_at_safe types owner permits laws known functions all (suc depth) key acts fs sizes made under w ticks active
+    waiting many typed state =
     let one = all key in
-    subst (λ o. Good owner
+    subst (λ o. GoodHeld types owner permits
     (λ (v : Value) n. IsIn types owner acts fs sizes ((v, known.result key) ∷ under) n × (lying_in n ≡ lying_in w))
     (enters (call_at functions depth) depth o (values_of made) w ticks)) (sym one.1)
-    (enters_good types owner laws known (call_at functions depth)
-    (calls_at_safe types owner laws known functions all depth) depth one.0 key one.2 acts fs sizes made under active waiting
-    many typed w ticks state)
+    (enters_good types owner permits laws known (call_at functions depth)
+    (calls_at_safe types owner permits laws known functions all depth) depth one.0 key one.2 acts fs sizes made under
+    active waiting many typed w ticks state)

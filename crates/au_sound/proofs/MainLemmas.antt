@@ -1,5 +1,5 @@
 -- Every run from an entry is seen well.
-use Rattle.std.proofs.Common.{◌≡◌, ℕ, suc, Bool, List, [], ◌∷◌, Option, refl, sym, subst}
+use Rattle.std.proofs.Common.{◌≡◌, ℕ, suc, Bool, List, [], ◌∷◌, Option, refl, sym, subst, ◌∙◌}
 use Rattle.au_effects.specs.Values.{root}
 use Rattle.au_type_texts.specs.Types.{ClosedType}
 use Rattle.au_types.specs.Types.{Meaning}
@@ -8,22 +8,25 @@ use Rattle.au_safe_ships.specs.Orders.{is_active}
 use Rattle.au_meaning.specs.Meanings.{begun, call_at, first_world, parameters_of, root_born, seen}
 use Rattle.au_meaning.specs.Ticks.{Out, aborts, cut, gives, no_rule}
 use Rattle.au_meaning.specs.Views.{Field, Function}
-use Rattle.au_meaning.specs.Worlds.{Value, World}
-use Rattle.au_safe_ships.specs.Good.{Good, IsIn, lying_in}
+use Rattle.au_meaning.specs.Worlds.{Value, World, exit, running}
+use Rattle.au_safe_ships.specs.Good.{IsIn, lying_in}
 use Rattle.au_sound_blocks.specs.Blocks.{AllRun}
 use Rattle.au_sound_blocks.specs.Known.{AreActive, Callables}
 use Rattle.au_sound_blocks.proofs.LoopLemmas.{good_does}
 use Rattle.au_safe_ships.specs.Beginning.{IsExitOf}
-use Rattle.au_sound.specs.Runs.{EndsWell, IsSeenWell, RunsAreSafe, RunsWell, TakesRoot}
+use Rattle.au_sound.specs.Runs.{EndsWell, HoldsWhereCut, IsSeenWell, RunsAreSafe, RunsWell, TakesRoot}
 use Rattle.au_sound.proofs.CallLemmas.{calls_at_safe}
+use Rattle.au_sound_blocks.specs.Held.{GoodHeld, Permits}
 
-module _ (types : Types) (owner : ClosedType → Option (List ℕ)) (laws : RunsAreSafe types owner) where
+module _ (types : Types) (owner : ClosedType → Option (List ℕ)) {K W : Type 0} (permits : Permits K W)
+    (laws : RunsAreSafe types owner) where
   -- the value of an entry under way, and nothing else
   abbrev Gave : Meaning → Value → World → Type 0
   Gave t v n = IsIn types owner [] [] [] ((v, t) ∷ []) n × (lying_in n ≡ [])
 
   -- what comes of an entry is seen well
-  seen_well : (t : Meaning) → IsExitOf types t → (ticks : ℕ) (out : Out Value) → Good owner (Gave t) out
+  seen_well : (t : Meaning) → IsExitOf types t → (ticks : ℕ) (out : Out Value)
+      → GoodHeld types owner permits (Gave t) out
       → IsSeenWell owner (seen ticks out)
   seen_well t exits ticks (gives v n left) good =
       let told = laws.steps.actions.told [] [] [] ((v, t) ∷ []) n good.0 in
@@ -38,36 +41,51 @@ module _ (types : Types) (owner : ClosedType → Option (List ℕ)) (laws : Runs
   seen_well t exits ticks (aborts fault n left) good =
       record { once = good.0; inside = good.1; own = good.2; ended = tt }
   seen_well t exits ticks (cut n) good =
-      record { once = good.0.0; inside = good.0.1; own = good.0.2; ended = good.1 }
+      record { once = good.0.0.0; inside = good.0.0.1; own = good.0.0.2; ended = good.0.1 }
   seen_well t exits ticks (no_rule n left) good = absurd good
 
-  module _ {I T C K : Type 0} (known : Callables I K) (functions : I → Option (Function I T C))
-      (all : AllRun types owner known functions) (key : K) (open_none : known.tokens key ≡ []) (depth : ℕ) where
+  -- and where it was cut off, names hold what they may
+  holds_well : (t : Meaning) → IsExitOf types t → (ticks : ℕ) (out : Out Value)
+      → GoodHeld types owner permits (Gave t) out
+      → HoldsWhereCut types owner permits (seen ticks out)
+  holds_well t exits ticks (gives v n left) good is =
+      let over = laws.exits [] [] [] [] n laws.steps.actions.typed v t exits good.0 in
+      let clash : exit over.0 ≡ running = sym over.1 ∙ is in
+      absurd cc
+  holds_well t exits ticks (aborts fault n left) good is = absurd cc
+  holds_well t exits ticks (cut n) good is = good.1
+  holds_well t exits ticks (no_rule n left) good is = absurd good
+
+  module _ {I T C : Type 0} (known : Callables I K) (functions : I → Option (Function I T C))
+      (all : AllRun types owner permits known functions) (key : K) (open_none : known.tokens key ≡ []) (depth : ℕ) where
     none_active : (active : ℕ → Bool) → AreActive active (known.tokens key)
     none_active active = subst (AreActive active) (sym open_none) tt
 
     begun_good : (ts : List Meaning) (ps : List Field) → TakesRoot types owner ts ps → ts ≡ known.parameters key
         → (input : List ℕ) (ticks : ℕ)
-        → Good owner (Gave (known.result key)) (begun ps (call_at functions depth (known.of key)) (first_world input) ticks)
+        → GoodHeld types owner permits (Gave (known.result key))
+        (begun ps (call_at functions depth (known.of key)) (first_world input) ticks)
     begun_good [] [] takes same input ticks =
-        calls_at_safe types owner laws known functions all depth key [] [] [] [] [] (first_world input) ticks
+        calls_at_safe types owner permits laws known functions all depth key [] [] [] [] [] (first_world input) ticks
         (none_active (is_active [])) tt refl same (laws.starts types owner input)
     begun_good [] (p ∷ ps) takes same input ticks = absurd takes
     begun_good (t ∷ []) [] takes same input ticks = absurd takes
     begun_good (t ∷ []) (p ∷ []) takes same input ticks =
-        good_does owner (Gave (known.result key)) (root_born p.of)
+        good_does owner _ (Gave (known.result key)) (root_born p.of)
         (call_at functions depth (known.of key) (root 0 ∷ [])) (first_world input) ticks
-        (calls_at_safe types owner laws known functions all depth key [] [] [] ((root 0, t) ∷ []) []
+        (calls_at_safe types owner permits laws known functions all depth key [] [] [] ((root 0, t) ∷ []) []
         (root_born p.of (first_world input)) ticks (none_active (is_active [])) tt refl same
         (laws.rooted [] [] [] [] (first_world input) t p.of takes.0 takes.1 (laws.starts types owner input)))
     begun_good (t ∷ []) (p ∷ r ∷ ps) takes same input ticks = absurd takes
     begun_good (t ∷ u ∷ ts) ps takes same input ticks = absurd takes
 
-  pub runs_well : {I T C K : Type 0} (known : Callables I K) (functions : I → Option (Function I T C))
-      → RunsWell types owner known functions
+  pub runs_well : {I T C : Type 0} (known : Callables I K) (functions : I → Option (Function I T C))
+      → RunsWell types owner permits known functions
   runs_well known functions all key entry input ticks =
-      seen_well (known.result key) entry.gives ticks
-      (begun (parameters_of (functions (known.of key))) (call_at functions (suc ticks) (known.of key)) (first_world input)
-      ticks)
-      (begun_good known functions all key entry.open_none (suc ticks) (known.parameters key)
-      (parameters_of (functions (known.of key))) entry.takes refl input ticks)
+      let out = begun (parameters_of (functions (known.of key))) (call_at functions (suc ticks) (known.of key))
+      (first_world input) ticks in
+      let good = begun_good known functions all key entry.open_none (suc ticks) (known.parameters key)
+      (parameters_of (functions (known.of key))) entry.takes refl input ticks in (
+        seen_well (known.result key) entry.gives ticks out good,
+        holds_well (known.result key) entry.gives ticks out good,
+      )

@@ -15,6 +15,7 @@ use Rattle.au_safe_ships.specs.Entering.{EntersWell, LeavesWell}
 use Rattle.au_safe_ships.specs.Sound.{IsHomeOf}
 use Rattle.au_safe_ships.specs.Beginning.{ExitsWell, FinishesWell, IsExitOf, RootsComeWell, StartsWell}
 use Rattle.au_sound_blocks.specs.Blocks.{AllRun}
+use Rattle.au_sound_blocks.specs.Held.{HoldsWell, Permits}
 use Rattle.au_sound_blocks.specs.Known.{Callables}
 use Rattle.au_sound_blocks.specs.Steps.{StepsAreSafe}
 
@@ -62,10 +63,17 @@ pub record IsEntry (types : Types) (owner : ClosedType → Option (List ℕ)) {I
   pub gives : IsExitOf types (known.result key)
   pub open_none : known.tokens key ≡ []
 
+-- Where a run is cut off, before whichever of its ticks, there is a way for each frame in which functions are
+-- called, such that each of its names that holds something is of a type that is permitted in this way.
+abbrev pub HoldsWhereCut : (types : Types) → (ClosedType → Option (List ℕ)) → {V W : Type 0} → Permits V W
+    → Outcome → Type 0
+HoldsWhereCut types owner permits seen = seen.ending ≡ running → HoldsWell types owner permits seen.world
+
 -- Where each function may be run at each key, every run from an entry is seen well, whatever the input and
--- however many ticks there are.
-abbrev pub RunsWell : (types : Types) → (ClosedType → Option (List ℕ)) → {I T C K : Type 0} → Callables I K
-    → (I → Option (Function I T C)) → Type 0
-RunsWell types owner {I} {T} {C} {K} known functions =
-    AllRun types owner known functions → (key : K) → IsEntry types owner known functions key
+-- however many ticks there are; and names hold what they may wherever it is cut off.
+abbrev pub RunsWell : (types : Types) → (ClosedType → Option (List ℕ)) → {K W : Type 0} → Permits K W
+    → {I T C : Type 0} → Callables I K → (I → Option (Function I T C)) → Type 0
+RunsWell types owner {K} {W} permits {I} {T} {C} known functions =
+    AllRun types owner permits known functions → (key : K) → IsEntry types owner known functions key
     → (input : List ℕ) (ticks : ℕ) → IsSeenWell owner (mean functions (known.of key) input ticks)
+    × HoldsWhereCut types owner permits (mean functions (known.of key) input ticks)

@@ -5,12 +5,14 @@ ghost use Rattle.au_type_texts.specs.Types.{ClosedType};
 ghost use Rattle.au_memory.specs.Loans.{Types};
 ghost use Rattle.au_meaning.specs.Views.{Function};
 ghost use Rattle.au_safe_ships.specs.Sound.{AreTyped};
+ghost use Rattle.au_sound_blocks.specs.Held.{Permits};
 ghost use Rattle.au_sound_blocks.specs.Known.{Callables};
 ghost use Rattle.au_sound.specs.Runs.{RunsWell};
 
-/// Where each function may be run at each key at which it is called, every run from an entry is seen well.
-pub fn judged_programs_run_safely<I, T, C, K>()
+/// Where each function may be run at each key at which it is called, every run from an entry is seen well,
+/// and names hold what they may wherever it is cut off.
+pub fn judged_programs_run_safely<I, T, C, K, W>()
     ensures { (types : Types) (owner : ClosedType → Option (List ℕ)) → AreTyped types
-        → (known : Callables I K) (functions : I → Option (Function I T C))
-        → RunsWell types owner known functions }
+        → (permits : Permits K W) (known : Callables I K) (functions : I → Option (Function I T C))
+        → RunsWell types owner permits known functions }
 {}

@@ -12,7 +12,7 @@ use Rattle.au_syntax.specs.Expressions.{Expression}
 use Rattle.au_syntax.specs.Plain.{Bytes}
 use Rattle.au_syntax.specs.Types.{Bound}
 use Rattle.au_memory.specs.Forests as forest
-use Rattle.au_memory.specs.Forests.{Hold, Made, empty}
+use Rattle.au_memory.specs.Forests.{Made}
 use Rattle.au_memory.specs.Loans.{Types}
 use Rattle.au_lending.specs.Laws.{IsReadable}
 use Rattle.au_lending.specs.Records.{onto, types_made}
@@ -28,7 +28,7 @@ use Rattle.au_meaning.specs.Views.{Field, View}
 use Rattle.au_meaning.specs.Worlds.{Value, World}
 use Rattle.au_sound_expressions.specs.Good.{Good, IsIn, IsRunning, lying_in}
 use Rattle.au_sound_expressions.specs.Making.{values_of}
-use Rattle.au_sound_expressions.proofs.GoodLemmas.{good_needing, good_then}
+use Rattle.au_sound_expressions.proofs.GoodLemmas.{good_needing, good_then, good_uncut}
 use Rattle.au_sound_expressions.specs.Blocks.{AreBound, IsRecordOf, IsWholeOf, Names, with_types}
 use Rattle.au_sound_expressions.specs.Expressions.{IsNamed, IsOf, LooksInto, Reaches}
 use Rattle.au_sound_expressions.specs.Known.{Callables, InScope, with_token}
@@ -43,6 +43,7 @@ use Rattle.au_sound_blocks.proofs.FrameLemmas.{types_before}
 use Rattle.au_sound_blocks.proofs.LeaveLemmas.{follows_apart, good_puts, good_sets}
 use Rattle.au_sound_blocks.proofs.StateLemmas.{Ends, Goes, Valued, falls_on, goes_with, ticks_on, value_safe}
 use Rattle.au_sound_blocks.proofs.StateLemmas.{values_safe}
+use Rattle.au_sound_expressions.specs.Held.{GoodHeld, IsCutSo, Permits}
 
 -- the one that is met is good for its own count
 pub met_one : (x : Variable) (one : Counts) (h : Standing) → AreReady h (λ k. where_of k (Some x) one)
@@ -50,36 +51,40 @@ pub met_one : (x : Variable) (one : Counts) (h : Standing) → AreReady h (λ k.
 met_one x one h met =
     subst (λ c. Ready (stand (h x.number)) c) (where_own x one ∙ sym (plus_nothing one)) (met x.number)
 
-module _ (types : Types) (owner : ClosedType → Option (List ℕ)) (laws : StepsAreSafe types owner) (loose : ℕ → Bool)
+module _ (types : Types) (owner : ClosedType → Option (List ℕ)) {V W : Type 0} (permits : Permits V W)
+    (laws : StepsAreSafe types owner) (key : V) (loose : ℕ → Bool)
     (result : Meaning) (below : List Act) (base : Lying) (fs : List Frame) (sizes : List ℕ) (size : ℕ)
     (running : IsRunning sizes fs size) {I T C K : Type 0} (see : View I T C) (known : Callables I K)
-    (invoke : I → List Value → Action Value) (calls_safe : CallsSafe types owner known invoke)
-    (waiting : AllWait (is_active below) fs) where
+    (invoke : I → List Value → Action Value) (calls_safe : CallsSafe types owner permits known invoke)
+    (waiting : AllWait permits (is_active below) fs) where
   abbrev Gos : List Act → ℕ → Standing → Names → Made → World → Type 0
-  Gos own number h names under w = Goes types owner laws loose result below base fs sizes size running own number h names under w
+  Gos own number h names under w = Goes types owner permits laws key loose result below base fs sizes size running own
+      number h names under w
 
-  abbrev Ending : List Act → (kept next : ℕ) → Names → (Standing → Type 0) → (Names → Type 0) → Made → Flow → World → Type 0
+  abbrev Ending : List Act → (kept next : ℕ) → Names → (Standing → Type 0) → (Names → Type 0) → Made → Flow → World
+      → Type 0
   Ending own kept next before A R under flow w =
-      Ends types owner laws loose result below base fs sizes size running own kept next before A R under flow w
+      Ends types owner permits laws key loose result below base fs sizes size running own kept next before A R under
+      flow w
 
   -- an action on a value of an expression, after which the frame goes on
   pub after_value : (number next : ℕ) (scope : Scope) (e : Expression Bytes T C) (t : Meaning) (own : List Act)
       (A : Standing → Type 0) (R : Names → Type 0) (h : Standing) (names : Names) (under : Made) (w : World) (ticks : ℕ)
       (go : Value → Action Flow)
-      → IsWholeOf types owner see known result loose (is_active (own ++ below)) names scope e t
+      → IsWholeOf types owner see known result loose permits key (is_active (own ++ below)) names scope e t
       → AreReady h (λ k. uses see k scope e) → Gos own number h names under w
       → ((v : Value) (n : World) (left : ℕ) → Gos own number (after_whole see loose scope e h) names ((v, t) ∷ under) n
-      → Good owner (Ending own number next names A R under) (go v n left))
-      → Good owner (Ending own number next names A R under)
+      → GoodHeld types owner permits (Ending own number next names A R under) (go v n left))
+      → GoodHeld types owner permits (Ending own number next names A R under)
       ((whole see invoke scope e >>= (λ v. tick (go v))) w ticks)
   after_value number next scope e t own A R h names under w ticks go fits met going goes =
       let q = Ending own number next names A R under in
-      good_then owner (λ (v : Value) n. Gos own number (after_whole see loose scope e h) names ((v, t) ∷ under) n) q
+      good_then owner _ (λ (v : Value) n. Gos own number (after_whole see loose scope e h) names ((v, t) ∷ under) n) q
       (whole see invoke scope e w ticks) (λ v. tick (go v))
-      (value_safe types owner laws loose result below base fs sizes size running see known invoke calls_safe waiting t scope
-      e own number h names under w ticks fits met going)
+      (value_safe types owner permits laws key loose result below base fs sizes size running see known invoke calls_safe
+      waiting t scope e own number h names under w ticks fits met going)
       (λ v n left on.
-      ticks_on types owner laws loose result below base fs sizes size running q (go v) own number
+      ticks_on types owner permits laws key loose result below base fs sizes size running waiting q (go v) own number
       (after_whole see loose scope e h) names ((v, t) ∷ under) n left on (λ more. goes v n more on))
 
   -- ---- a record is taken apart
@@ -89,27 +94,28 @@ module _ (types : Types) (owner : ClosedType → Option (List ℕ)) (laws : Step
       (w : World) (ticks : ℕ) (fields : List Field) (kinds : List Meaning)
       → ((z : ℕ) → is_active (own ++ below) z ≡ false → (of : Meaning)
       × IsOf types owner see known names z (with_token z (is_active (own ++ below))) scope e of
-      × IsRecordOf types owner see known result loose kinds of)
+      × IsRecordOf types owner see known result loose permits key kinds of)
       → fields_noted see (note_of e) ≡ Some fields
-      → (bound : AreBound types owner see known result loose number fields kinds binds)
+      → (bound : AreBound types owner see known result loose permits key number fields kinds binds)
       → R (with_types number bound.bound names)
       → Steps see loose scope e h (λ g. A (put_each number (length binds) forest.ready g))
       → number + length binds ≤ size → Gos own number h names under w
-      → Good owner (Ending own number (number + length binds) names A R under)
+      → GoodHeld types owner permits (Ending own number (number + length binds) names A R under)
       ((whole see invoke scope e >>= (λ v. tick (takes_apart see number binds (note_of e) v))) w ticks)
-  destructure_safe number scope e binds own A R h names under w ticks fields kinds fits noted bound says steps room going =
-      good_then owner
-      (Valued types owner laws loose result below base fs sizes size running own number
-      (IsRecordOf types owner see known result loose kinds) (after_whole see loose scope e h) names under)
+  destructure_safe number scope e binds own A R h names under w ticks fields kinds fits noted bound says steps room
+      going =
+      good_then owner _
+      (Valued types owner permits laws key loose result below base fs sizes size running own number
+      (IsRecordOf types owner see known result loose permits key kinds) (after_whole see loose scope e h) names under)
       (Ending own number (number + length binds) names A R under) (whole see invoke scope e w ticks)
       (λ v. tick (takes_apart see number binds (note_of e) v))
-      (values_safe types owner laws loose result below base fs sizes size running see known invoke calls_safe waiting
-      (IsRecordOf types owner see known result loose kinds) scope e own number h names under w ticks
-      (λ z off. let fit = fits z off in (fit.0, fit.2, fit.1)) steps.0 going)
+      (values_safe types owner permits laws key loose result below base fs sizes size running see known invoke
+      calls_safe waiting (IsRecordOf types owner see known result loose permits key kinds) scope e own number h names
+      under w ticks (λ z off. let fit = fits z off in (fit.0, fit.2, fit.1)) steps.0 going)
       (λ v n left valued.
-      ticks_on types owner laws loose result below base fs sizes size running
-      (Ending own number (number + length binds) names A R under) (takes_apart see number binds (note_of e) v) own number
-      (after_whole see loose scope e h) names ((v, valued.of) ∷ under) n left valued.going
+      ticks_on types owner permits laws key loose result below base fs sizes size running waiting
+      (Ending own number (number + length binds) names A R under) (takes_apart see number binds (note_of e) v) own
+      number (after_whole see loose scope e h) names ((v, valued.of) ∷ under) n left valued.going
       (λ more. opened v valued.of valued.is n more valued.going))
     where
       g : Standing
@@ -121,12 +127,14 @@ module _ (types : Types) (owner : ClosedType → Option (List ℕ)) (laws : Step
       mid : Meaning → ℕ × List Value → World → Type 0
       mid of p n =
           (parts : Made) × (p.1 ≡ values_of parts) × (types.fields of p.0 ≡ Some (types_made parts))
-          × IsIn types owner (own ++ below) (frame (after_whole see loose scope e h) names ∷ fs) sizes (onto parts under) n
+          × IsIn types owner (own ++ below) (frame (after_whole see loose scope e h) names ∷ fs) sizes
+          (onto parts under) n
 
-      filled : (of : Meaning) → IsRecordOf types owner see known result loose kinds of → (p : ℕ × List Value) (m : World)
+      filled : (of : Meaning) → IsRecordOf types owner see known result loose permits key kinds of
+          → (p : ℕ × List Value) (m : World)
           (more : ℕ) (parts : Made) → p.1 ≡ values_of parts → types.fields of p.0 ≡ Some (types_made parts)
           → Gos own number (after_whole see loose scope e h) names (onto parts under) m
-          → Good owner (Ending own number (number + length binds) names A R under)
+          → GoodHeld types owner permits (Ending own number (number + length binds) names A R under)
           ((where_true (p.0 == 0) (binds_fields number binds (fields_noted see (note_of e)) p.1) >> pure falls) m more)
       filled of its p m more parts are typed on =
           let zero_is : p.0 ≡ 0 = its.1 p.0 (types_made parts) typed in
@@ -136,30 +144,30 @@ module _ (types : Types) (owner : ClosedType → Option (List ℕ)) (laws : Step
           let r = λ (u : Unit {0}) (n : World). Gos own (number + length binds)
           (put_each number (length binds) forest.ready (after_whole see loose scope e h))
           (with_types number bound.bound names) under n in
-          let bind = binds_good types owner laws loose result below base fs sizes size running see known invoke calls_safe
-          waiting own number binds fields kinds bound (after_whole see loose scope e h) names parts under m more kinds_are
-          room on in
-          good_then owner
+          let bind = binds_good types owner permits laws key loose result below base fs sizes size running see known
+          invoke calls_safe waiting own number binds fields kinds bound (after_whole see loose scope e h) names parts
+          under m more kinds_are room on in
+          good_then owner _
           (λ (u : Unit {0}) n. Gos own (number + length binds)
           (put_each number (length binds) forest.ready (after_whole see loose scope e h))
           (with_types number bound.bound names) under n)
           (Ending own number (number + length binds) names A R under)
-          (where_true (p.0 == 0) (binds_fields number binds (fields_noted see (note_of e)) p.1) m more) (λ u. pure falls)
-          (good_where owner
+          (where_true (p.0 == 0) (binds_fields number binds (fields_noted see (note_of e)) p.1) m more)
+          (λ u. pure falls) (good_where owner _
           (λ (u : Unit {0}) n. Gos own (number + length binds)
           (put_each number (length binds) forest.ready (after_whole see loose scope e h))
           (with_types number bound.bound names) under n) (p.0 == 0)
           (binds_fields number binds (fields_noted see (note_of e)) p.1) m more (eq-eqb p.0 0 zero_is)
-          (subst (λ (vs : List Value). Good owner
+          (subst (λ (vs : List Value). GoodHeld types owner permits
           (λ (u : Unit {0}) n. Gos own (number + length binds)
           (put_each number (length binds) forest.ready (after_whole see loose scope e h))
           (with_types number bound.bound names) under n)
           (binds_fields number binds (fields_noted see (note_of e)) vs m more)) (sym are)
-          (subst (λ (f : Option (List Field)). Good owner
+          (subst (λ (f : Option (List Field)). GoodHeld types owner permits
           (λ (u : Unit {0}) n. Gos own (number + length binds)
           (put_each number (length binds) forest.ready (after_whole see loose scope e h))
-          (with_types number bound.bound names) under n) (binds_fields number binds f (values_of parts) m more)) (sym noted)
-          bind)))
+          (with_types number bound.bound names) under n) (binds_fields number binds f (values_of parts) m more))
+          (sym noted) bind)))
           (λ u n last on2. record {
             hold = put_each number (length binds) forest.ready (after_whole see loose scope e h);
             names = with_types number bound.bound names;
@@ -169,20 +177,22 @@ module _ (types : Types) (owner : ClosedType → Option (List ℕ)) (laws : Step
             going = on2;
           })
 
-      opened : (v : Value) (of : Meaning) → IsRecordOf types owner see known result loose kinds of → (n : World) (left : ℕ)
+      opened : (v : Value) (of : Meaning) → IsRecordOf types owner see known result loose permits key kinds of
+          → (n : World) (left : ℕ)
           → Gos own number (after_whole see loose scope e h) names ((v, of) ∷ under) n
-          → Good owner (Ending own number (number + length binds) names A R under)
+          → GoodHeld types owner permits (Ending own number (number + length binds) names A R under)
           (takes_apart see number binds (note_of e) v n left)
       opened v of its n left on =
-          good_then owner (λ (p : ℕ × List Value) m. mid of p m × (lying_in m ≡ lying_in n))
+          good_then owner _ (λ (p : ℕ × List Value) m. mid of p m × (lying_in m ≡ lying_in n))
           (Ending own number (number + length binds) names A R under) (apart v n left)
           (λ p. where_true (p.0 == 0) (binds_fields number binds (fields_noted see (note_of e)) p.1) >> pure falls)
-          (good_apart owner (mid of) v n left
+          (good_apart owner _ (mid of) v n left
+          (good_uncut owner (IsCutSo types owner permits) (mid of) (apart v n left)
           (laws.apart (own ++ below) (frame (after_whole see loose scope e h) names ∷ fs) sizes under n left
-          laws.actions.typed v of 0 kinds its.0 on.state))
+          laws.actions.typed v of 0 kinds its.0 on.state)))
           (λ p m more both.
           filled of its p m more both.0.0 both.0.1 both.0.2
-          (goes_with types owner laws loose result below base fs sizes size running own number
+          (goes_with types owner permits laws key loose result below base fs sizes size running own number
           (after_whole see loose scope e h) names ((v, of) ∷ under) (onto both.0.0 under) n m both.1 both.0.3 on))
 
   -- ---- a part of a variable is set
@@ -190,35 +200,38 @@ module _ (types : Types) (owner : ClosedType → Option (List ℕ)) (laws : Step
   pub assign_safe : (number : ℕ) (scope : Scope) (e : Expression Bytes T C) (o : Option Variable) (fields : List Bytes)
       (own : List Act) (A : Standing → Type 0) (R : Names → Type 0) (h : Standing) (names : Names) (under : Made)
       (w : World) (ticks : ℕ) (of : Meaning)
-      → IsWholeOf types owner see known result loose (is_active (own ++ below)) names scope e of
+      → IsWholeOf types owner see known result loose permits key (is_active (own ++ below)) names scope e of
       → LooksInto types owner see known names 0 (is_active (own ++ below)) o fields of → R names
       → Steps see loose scope e h (λ g. AreReady g (λ k. where_of k o one_write_borrow) × A g)
       → Gos own number h names under w
-      → Good owner (Ending own number number names A R under)
+      → GoodHeld types owner permits (Ending own number number names A R under)
       ((whole see invoke scope e >>= (λ v. tick (assigns see o fields v))) w ticks)
   assign_safe number scope e None fields own A R h names under w ticks of fits into says steps going = absurd into
   assign_safe number scope e (Some x) fields own A R h names under w ticks of fits into says steps going =
-      after_value number number scope e of own A R h names under w ticks (λ v. assigns see (Some x) fields v) fits steps.0
-      going (λ v n left on.
+      after_value number number scope e of own A R h names under w ticks (λ v. assigns see (Some x) fields v) fits
+      steps.0 going (λ v n left on.
       let is = is_ready (after_whole see loose scope e h x.number)
       (ready.lends (stand (after_whole see loose scope e h x.number)) unmentioned
       (met_one x one_write_borrow (after_whole see loose scope e h) steps.1.0)).0 in
       let typed = laws.actions.typed in
-      good_needing owner (Ending own number number names A R under) (path_numbers (λ u. see.fields u 0) x.of fields) into.0
-      (λ path. sets x.number path v >> pure falls) n left into.1
-      (good_then owner
-      (λ (old : Value) m. IsIn types owner (own ++ below) (frame (after_whole see loose scope e h) names ∷ fs) sizes under
-      m × (lying_in m ≡ lying_in n)) (Ending own number number names A R under) (sets x.number into.0 v n left)
+      good_needing owner _ (Ending own number number names A R under) (path_numbers (λ u. see.fields u 0) x.of fields)
+      into.0 (λ path. sets x.number path v >> pure falls) n left into.1
+      (good_then owner _
+      (λ (old : Value) m. IsIn types owner (own ++ below) (frame (after_whole see loose scope e h) names ∷ fs) sizes
+      under m × (lying_in m ≡ lying_in n)) (Ending own number number names A R under) (sets x.number into.0 v n left)
       (λ old. pure falls)
-      (good_sets owner
-      (λ (old : Value) m. IsIn types owner (own ++ below) (frame (after_whole see loose scope e h) names ∷ fs) sizes under
-      m) x.number into.0 v n left
+      (good_sets owner _
+      (λ (old : Value) m. IsIn types owner (own ++ below) (frame (after_whole see loose scope e h) names ∷ fs) sizes
+      under m) x.number into.0 v n left
+      (good_uncut owner (IsCutSo types owner permits)
+      (λ (old : Value) m. IsIn types owner (own ++ below) (frame (after_whole see loose scope e h) names ∷ fs) sizes
+      under m) (sets x.number into.0 v n left)
       (laws.set (own ++ below) (frame (after_whole see loose scope e h) names) fs sizes size under n left typed.forms
-      typed.cases typed.lawful running x.number into.0 v of is into.2 into.3 on.state))
+      typed.cases typed.lawful running x.number into.0 v of is into.2 into.3 on.state)))
       (λ old m more both.
-      falls_on types owner laws loose result below base fs sizes size running own number number
+      falls_on types owner permits laws key loose result below base fs sizes size running own number number
       (after_whole see loose scope e h) names A R under m steps.1.1 says
-      (goes_with types owner laws loose result below base fs sizes size running own number
+      (goes_with types owner permits laws key loose result below base fs sizes size running own number
       (after_whole see loose scope e h) names ((v, of) ∷ under) under n m both.1 both.0 on))))
 
   -- ---- a part of what the reference in a variable leads to is set
@@ -226,37 +239,41 @@ module _ (types : Types) (owner : ClosedType → Option (List ℕ)) (laws : Step
   pub through_safe : (number : ℕ) (scope : Scope) (e : Expression Bytes T C) (o : Option Variable) (fields : List Bytes)
       (own : List Act) (A : Standing → Type 0) (R : Names → Type 0) (h : Standing) (names : Names) (under : Made)
       (w : World) (ticks : ℕ) (of : Meaning) (region : Region)
-      → IsWholeOf types owner see known result loose (is_active (own ++ below)) names scope e of
+      → IsWholeOf types owner see known result loose permits key (is_active (own ++ below)) names scope e of
       → types.is_free of ≡ true
       → Reaches types owner see known names 0 (is_active (own ++ below)) o fields region of
       (λ u. IsNamed types owner see known names 0 (is_active (own ++ below)) o (writes u region))
       → R names → Steps see loose scope e h (λ g. AreReady g (λ k. where_of k o one_look) × A g)
       → Gos own number h names under w
-      → Good owner (Ending own number number names A R under)
+      → GoodHeld types owner permits (Ending own number number names A R under)
       ((whole see invoke scope e >>= (λ v. tick (assigns_behind see o fields v))) w ticks)
-  through_safe number scope e None fields own A R h names under w ticks of region fits free to says steps going = absurd to
+  through_safe number scope e None fields own A R h names under w ticks of region fits free to says steps going =
+      absurd to
   through_safe number scope e (Some x) fields own A R h names under w ticks of region fits free to says steps going =
-      after_value number number scope e of own A R h names under w ticks (λ v. assigns_behind see (Some x) fields v) fits
-      steps.0 going (λ v n left on.
+      after_value number number scope e of own A R h names under w ticks (λ v. assigns_behind see (Some x) fields v)
+      fits steps.0 going (λ v n left on.
       let is = is_readable (after_whole see loose scope e h x.number)
       (ready.looks (stand (after_whole see loose scope e h x.number)) unmentioned
       (met_one x one_look (after_whole see loose scope e h) steps.1.0)).0 in
       let q = Ending own number number names A R under in
-      subst (λ (p : Option (List ℕ)). Good owner (Ending own number number names A R under)
+      subst (λ (p : Option (List ℕ)). GoodHeld types owner permits (Ending own number number names A R under)
       (follows (needing p (refers x.number) n left) (λ one. puts one v >> pure falls))) (sym to.2)
-      (subst (λ out. Good owner (Ending own number number names A R under) out)
+      (subst (λ out. GoodHeld types owner permits (Ending own number number names A R under) out)
       (follows_apart (refers x.number to.0 n left) (λ one. puts one v) (λ old. pure falls))
-      (good_then owner
-      (λ (old : Value) m. IsIn types owner (own ++ below) (frame (after_whole see loose scope e h) names ∷ fs) sizes under
-      m × (lying_in m ≡ lying_in n)) (Ending own number number names A R under)
+      (good_then owner _
+      (λ (old : Value) m. IsIn types owner (own ++ below) (frame (after_whole see loose scope e h) names ∷ fs) sizes
+      under m × (lying_in m ≡ lying_in n)) (Ending own number number names A R under)
       (follows (refers x.number to.0 n left) (λ one. puts one v)) (λ old. pure falls)
-      (good_puts owner
-      (λ (old : Value) m. IsIn types owner (own ++ below) (frame (after_whole see loose scope e h) names ∷ fs) sizes under
-      m) x.number to.0 v n left (put v n left on is to.4))
+      (good_puts owner (IsCutSo types owner permits)
+      (λ (old : Value) m. IsIn types owner (own ++ below) (frame (after_whole see loose scope e h) names ∷ fs) sizes
+      under m) x.number to.0 v n left
+      (good_uncut owner (IsCutSo types owner permits)
+      (λ (old : Value) m. IsIn types owner (own ++ below) (frame (after_whole see loose scope e h) names ∷ fs) sizes
+      under m) (follows (refers x.number to.0 n left) (λ one. puts one v)) (put v n left on is to.4)))
       (λ old m more both.
-      falls_on types owner laws loose result below base fs sizes size running own number number
+      falls_on types owner permits laws key loose result below base fs sizes size running own number number
       (after_whole see loose scope e h) names A R under m steps.1.1 says
-      (goes_with types owner laws loose result below base fs sizes size running own number
+      (goes_with types owner permits laws key loose result below base fs sizes size running own number
       (after_whole see loose scope e h) names ((v, of) ∷ under) under n m both.1 both.0 on)))))
     where
       put : (v : Value) (n : World) (left : ℕ)
@@ -266,9 +283,9 @@ module _ (types : Types) (owner : ClosedType → Option (List ℕ)) (laws : Step
           (frame (after_whole see loose scope e h) names ∷ fs) sizes under m)
           (follows (refers x.number to.0 n left) (λ one. puts one v))
       put v n left on is (inl static) =
-          absurd (laws.actions.named_statics (own ++ below) (frame (after_whole see loose scope e h) names) fs sizes size
-          ((v, of) ∷ under) n x.number to.1 is (inl (to.3 ∙ ap (writes to.1) static)) on.state)
+          absurd (laws.actions.named_statics (own ++ below) (frame (after_whole see loose scope e h) names) fs sizes
+          size ((v, of) ∷ under) n x.number to.1 is (inl (to.3 ∙ ap (writes to.1) static)) on.state)
       put v n left on is (inr scoped) =
           laws.put (own ++ below) (frame (after_whole see loose scope e h) names) fs sizes size under n left
-          laws.actions.typed running x.number to.0 v to.1 of scoped.0 is (to.3 ∙ ap (writes to.1) scoped.1) scoped.2 to.5
-          free on.state
+          laws.actions.typed running x.number to.0 v to.1 of scoped.0 is (to.3 ∙ ap (writes to.1) scoped.1) scoped.2
+          to.5 free on.state

@@ -24,9 +24,9 @@ use Rattle.au_meaning.specs.Ticks.{Action, Out, aborts, cut, follows, gives, nee
 use Rattle.au_meaning.specs.Ticks.{◌>>=◌}
 use Rattle.au_meaning.specs.Views.{View}
 use Rattle.au_meaning.specs.Worlds.{Value, World}
-use Rattle.au_sound_expressions.specs.Good.{Good, IsIn, IsRunning, lying_in}
+use Rattle.au_sound_expressions.specs.Good.{GoodBy, IsIn, IsRunning, lying_in}
 use Rattle.au_sound_expressions.proofs.GoodLemmas.{good_then}
-use Rattle.au_sound_expressions.specs.Blocks.{IsWholeOf, MayDrop, Names}
+use Rattle.au_sound_expressions.specs.Blocks.{IsFine, IsWholeOf, MayDrop, Names}
 use Rattle.au_sound_expressions.specs.Expressions.{IsOf}
 use Rattle.au_sound_expressions.specs.Known.{Callables, with_token}
 use Rattle.au_sound_expressions.specs.Lives.{IsOver, Standing, Steps, after_whole, freed_each, spent}
@@ -35,13 +35,14 @@ use Rattle.au_sound_expressions.specs.Uses.{uses}
 use Rattle.au_sound_expressions.specs.Safe.{After, AllWait, CallsSafe, frame}
 use Rattle.au_sound_expressions.proofs.EvalLemmas.{eval_safe}
 use Rattle.au_sound_expressions.proofs.HoldLemmas.{plus_nothing}
-use Rattle.au_sound_expressions.proofs.WaitLemmas.{active_more, all_more, fresh, waits_more}
+use Rattle.au_sound_expressions.proofs.WaitLemmas.{active_more, all_held, all_more, fresh, waits_more}
 use Rattle.au_sound_blocks.specs.Flows.{Going, tokens}
 use Rattle.au_sound_blocks.specs.Steps.{StepsAreSafe}
 use Rattle.au_sound_blocks.proofs.FormLemmas.{freed_empty}
 use Rattle.au_sound_blocks.proofs.FrameLemmas.{spent_empty}
 use Rattle.au_sound_blocks.proofs.StateLemmas.{Ends, Goes, Valued, good_stored, more_active, ticks_on}
-use Rattle.au_sound_blocks.proofs.StateLemmas.{goes_with, falls_on, values_safe}
+use Rattle.au_sound_blocks.proofs.StateLemmas.{goes_with, falls_on, stands, values_safe}
+use Rattle.au_sound_expressions.specs.Held.{GoodHeld, Permits}
 
 -- one action after two
 pub follows_apart : {A B C : Type 0} (out : Out A) (go : A → Action B) (more : B → Action C)
@@ -53,38 +54,45 @@ follows_apart (cut w) go more = refl
 follows_apart (no_rule w left) go more = refl
 
 -- a value that is set or put is so in the store alone
-pub good_sets : (owner : ClosedType → Option (List ℕ)) (q : Value → World → Type 0) (x : ℕ) (path : List ℕ) (v : Value)
-    (w : World) (ticks : ℕ) → Good owner q (sets x path v w ticks)
-    → Good owner (λ (old : Value) n. q old n × (lying_in n ≡ lying_in w)) (sets x path v w ticks)
-good_sets owner q x path v w ticks good =
-    good_stored owner q (exchanged (place_of x path w) v w.store) w ticks good
+pub good_sets : (owner : ClosedType → Option (List ℕ)) (cuts : World → Type 0) (q : Value → World → Type 0) (x : ℕ)
+    (path : List ℕ) (v : Value)
+    (w : World) (ticks : ℕ) → GoodBy owner cuts q (sets x path v w ticks)
+    → GoodBy owner cuts (λ (old : Value) n. q old n × (lying_in n ≡ lying_in w)) (sets x path v w ticks)
+good_sets owner cuts q x path v w ticks good =
+    good_stored owner cuts q (exchanged (place_of x path w) v w.store) w ticks good
 
-put_keeps : (owner : ClosedType → Option (List ℕ)) (q : Value → World → Type 0) (o : Option (ℕ × Place)) (v : Value)
-    (w : World) (ticks : ℕ) → Good owner q (follows (needing o pure w ticks) (λ one. puts one v))
-    → Good owner (λ (old : Value) n. q old n × (lying_in n ≡ lying_in w))
+put_keeps : (owner : ClosedType → Option (List ℕ)) (cuts : World → Type 0) (q : Value → World → Type 0)
+    (o : Option (ℕ × Place)) (v : Value)
+    (w : World) (ticks : ℕ) → GoodBy owner cuts q (follows (needing o pure w ticks) (λ one. puts one v))
+    → GoodBy owner cuts (λ (old : Value) n. q old n × (lying_in n ≡ lying_in w))
     (follows (needing o pure w ticks) (λ one. puts one v))
 unfolding follows
-put_keeps owner q None v w ticks good = absurd good
-put_keeps owner q (Some one) v w ticks good = good_stored owner q (put_behind one v w.store) w ticks good
+put_keeps owner cuts q None v w ticks good = absurd good
+put_keeps owner cuts q (Some one) v w ticks good = good_stored owner cuts q (put_behind one v w.store) w ticks good
 
-pub good_puts : (owner : ClosedType → Option (List ℕ)) (q : Value → World → Type 0) (x : ℕ) (path : List ℕ) (v : Value)
-    (w : World) (ticks : ℕ) → Good owner q (follows (refers x path w ticks) (λ one. puts one v))
-    → Good owner (λ (old : Value) n. q old n × (lying_in n ≡ lying_in w))
+pub good_puts : (owner : ClosedType → Option (List ℕ)) (cuts : World → Type 0) (q : Value → World → Type 0) (x : ℕ)
+    (path : List ℕ) (v : Value)
+    (w : World) (ticks : ℕ) → GoodBy owner cuts q (follows (refers x path w ticks) (λ one. puts one v))
+    → GoodBy owner cuts (λ (old : Value) n. q old n × (lying_in n ≡ lying_in w))
     (follows (refers x path w ticks) (λ one. puts one v))
-good_puts owner q x path v w ticks good =
-    put_keeps owner q (along (reference_held x w) (λ one. Some (reference_along one path))) v w ticks good
+good_puts owner cuts q x path v w ticks good =
+    put_keeps owner cuts q (along (reference_held x w) (λ one. Some (reference_along one path))) v w ticks good
 
-module _ (types : Types) (owner : ClosedType → Option (List ℕ)) (laws : StepsAreSafe types owner) (loose : ℕ → Bool)
+module _ (types : Types) (owner : ClosedType → Option (List ℕ)) {V W : Type 0} (permits : Permits V W)
+    (laws : StepsAreSafe types owner) (key : V) (loose : ℕ → Bool)
     (result : Meaning) (below : List Act) (base : Lying) (fs : List Frame) (sizes : List ℕ) (size : ℕ)
     (running : IsRunning sizes fs size) {I T C K : Type 0} (see : View I T C) (known : Callables I K)
-    (invoke : I → List Value → Action Value) (calls_safe : CallsSafe types owner known invoke)
-    (waiting : AllWait (is_active below) fs) where
+    (invoke : I → List Value → Action Value) (calls_safe : CallsSafe types owner permits known invoke)
+    (waiting : AllWait permits (is_active below) fs) where
   abbrev Gos : List Act → ℕ → Standing → Names → Made → World → Type 0
-  Gos own number h names under w = Goes types owner laws loose result below base fs sizes size running own number h names under w
+  Gos own number h names under w = Goes types owner permits laws key loose result below base fs sizes size running own
+      number h names under w
 
-  abbrev Ending : List Act → (kept next : ℕ) → Names → (Standing → Type 0) → (Names → Type 0) → Made → Flow → World → Type 0
+  abbrev Ending : List Act → (kept next : ℕ) → Names → (Standing → Type 0) → (Names → Type 0) → Made → Flow → World
+      → Type 0
   Ending own kept next before A R under flow w =
-      Ends types owner laws loose result below base fs sizes size running own kept next before A R under flow w
+      Ends types owner permits laws key loose result below base fs sizes size running own kept next before A R under
+      flow w
 
   -- ---- a value is dropped
 
@@ -104,26 +112,26 @@ module _ (types : Types) (owner : ClosedType → Option (List ℕ)) (laws : Step
       → ((z : ℕ) → is_active (own ++ below) z ≡ false → (of : Meaning)
       × IsOf types owner see known names z (with_token z (is_active (own ++ below))) scope e of × MayDrop types of)
       → R names → Steps see loose scope e h A → Gos own number h names under w
-      → Good owner (Ending own number number names A R under)
+      → GoodHeld types owner permits (Ending own number number names A R under)
       ((whole see invoke scope e >>= (λ v. tick (pure falls))) w ticks)
   discard_safe number scope e own A R h names under w ticks fits says steps going =
       let q = Ending own number number names A R under in
-      good_then owner
-      (Valued types owner laws loose result below base fs sizes size running own number (MayDrop types)
+      good_then owner _
+      (Valued types owner permits laws key loose result below base fs sizes size running own number (MayDrop types)
       (after_whole see loose scope e h) names under) q (whole see invoke scope e w ticks) (λ v. tick (pure falls))
-      (values_safe types owner laws loose result below base fs sizes size running see known invoke calls_safe waiting
-      (MayDrop types) scope e own number h names under w ticks
+      (values_safe types owner permits laws key loose result below base fs sizes size running see known invoke
+      calls_safe waiting (MayDrop types) scope e own number h names under w ticks
       (λ z off. let fit = fits z off in (fit.0, fit.2, fit.1)) steps.0 going)
       (λ v n left valued.
-      ticks_on types owner laws loose result below base fs sizes size running q (pure falls) own number
-      (after_whole see loose scope e h) names ((v, valued.of) ∷ under) n left valued.going
+      ticks_on types owner permits laws key loose result below base fs sizes size running waiting q (pure falls) own
+      number (after_whole see loose scope e h) names ((v, valued.of) ∷ under) n left valued.going
       (λ more.
-      falls_on types owner laws loose result below base fs sizes size running own number number
+      falls_on types owner permits laws key loose result below base fs sizes size running own number number
       (after_whole see loose scope e h) names A R under n steps.1 says
-      (goes_with types owner laws loose result below base fs sizes size running own number
+      (goes_with types owner permits laws key loose result below base fs sizes size running own number
       (after_whole see loose scope e h) names ((v, valued.of) ∷ under) under n n refl
-      (laws.dropped (own ++ below) (frame (after_whole see loose scope e h) names ∷ fs) sizes under n laws.actions.typed v
-      valued.of
+      (laws.dropped (own ++ below) (frame (after_whole see loose scope e h) names ∷ fs) sizes under n laws.actions.typed
+      v valued.of
       (droppable own (after_whole see loose scope e h) names under v valued.of n valued.is valued.state) valued.state)
       valued.going)))
 
@@ -131,37 +139,41 @@ module _ (types : Types) (owner : ClosedType → Option (List ℕ)) (laws : Step
 
   pub return_safe : (number : ℕ) (scope : Scope) (e : Expression Bytes T C) (own : List Act) (A : Standing → Type 0)
       (R : Names → Type 0) (h : Standing) (names : Names) (under : Made) (w : World) (ticks : ℕ)
-      → IsWholeOf types owner see known result loose (is_active (own ++ below)) names scope e result
+      → IsWholeOf types owner see known result loose permits key (is_active (own ++ below)) names scope e result
       → Steps see loose scope e h (λ g. (k : ℕ) → IsOver (loose k) (freed_each (tokens own) (g k))) → number ≤ size
       → Gos own number h names under w
-      → Good owner (Ending own number number names A R under)
+      → GoodHeld types owner permits (Ending own number number names A R under)
       ((eval see invoke scope e >>= (λ v. tick (pure (returns v)))) w ticks)
   return_safe number scope e own A R h names under w ticks fits steps room going =
       let begun = laws.actions.begun (own ++ below) (frame h names ∷ fs) sizes under w going.state in
       let a : Act = record { token = begun.0; base = lying_in w } in
       let q = Ending own number number names A R under in
-      good_then owner
-      (λ (v : Value) n. After types owner (a ∷ (own ++ below)) names fs sizes a.token h
-      (λ k. (uses see k scope e).consumed) (λ k. unmentioned) ((v, result) ∷ under) n) q (eval see invoke scope e w ticks)
-      (λ v. tick (pure (returns v)))
-      (eval_safe types owner laws.actions a (own ++ below) names fs sizes size running see known invoke calls_safe
-      (all_more (is_active below) (is_active (a ∷ (own ++ below)))
+      good_then owner _
+      (λ (v : Value) n. After types owner permits (a ∷ (own ++ below)) names fs sizes a.token h
+      (λ k. (uses see k scope e).consumed) (λ k. unmentioned) ((v, result) ∷ under) n) q (eval see invoke scope e w
+      ticks) (λ v. tick (pure (returns v)))
+      (eval_safe types owner permits laws.actions a (own ++ below) names fs sizes size running
+      (all_held permits (is_active below) fs waiting) see known invoke calls_safe
+      (all_more permits (is_active below) (is_active (a ∷ (own ++ below)))
       (λ z is. active_more a (own ++ below) z (more_active own below z is)) fs waiting) scope e result
       (fits begun.0 begun.1) (λ k. unmentioned) h under w ticks
-      (λ k. subst (λ n. Ready (stand (h k)) n) (sym (plus_nothing (uses see k scope e))) (steps.0 k))
-      (λ k. waits_more (is_active (own ++ below)) (is_active (a ∷ (own ++ below))) (active_more a (own ++ below)) (h k)
-      (going.waits k)) begun.2)
+      (λ k. subst (λ n. Ready (stand (h k)) n) (sym (plus_nothing (uses see k scope e))) (steps.0 k)) (
+        λ k. waits_more (is_active (own ++ below)) (is_active (a ∷ (own ++ below))) (active_more a (own ++ below)) (h k)
+            (going.waits k),
+        (stands types owner permits laws key loose result below base fs sizes size running own number h names under w
+            going).1,
+      ) begun.2)
       (λ v n left after.
-      let gone : Going types owner loose result below base fs sizes size (a ∷ own) size after.hold names
+      let gone : Going types owner permits key loose result below base fs sizes size (a ∷ own) size after.hold names
       ((v, result) ∷ under) n = record {
-        waits = after.waits;
+        waits = after.waits.0;
         clear = λ k from. emptied a after.hold k (after.gone k) (going.clear k (omega arith));
-        fine = λ k may. fine_on a after.hold k (after.gone k) (going.fine k may);
+        fine = λ k. fine_on a after.hold k (after.gone k) (going.fine k);
         bottom = going.bottom;
         state = after.state;
       } in
-      ticks_on types owner laws loose result below base fs sizes size running q (pure (returns v)) (a ∷ own) size after.hold
-      names ((v, result) ∷ under) n left gone
+      ticks_on types owner permits laws key loose result below base fs sizes size running waiting q (pure (returns v))
+      (a ∷ own) size after.hold names ((v, result) ∷ under) n left gone
       (λ more. record {
         newest = a;
         own = own;
@@ -181,6 +193,7 @@ module _ (types : Types) (owner : ClosedType → Option (List ℕ)) (laws : Step
 
       fine_on : (a : Act) (g : Standing) (k : ℕ)
           → freed a.token (g k) ≡ spent (uses see k scope e).consumed (freed a.token (h k))
-          → (h k ≡ empty) ⊎ MayDrop types (names k) → (g k ≡ empty) ⊎ MayDrop types (names k)
+          → (h k ≡ empty) ⊎ IsFine types loose permits key k (names k)
+          → (g k ≡ empty) ⊎ IsFine types loose permits key k (names k)
       fine_on a g k same (inl is) = inl (emptied a g k same is)
-      fine_on a g k same (inr may) = inr may
+      fine_on a g k same (inr fine) = inr fine

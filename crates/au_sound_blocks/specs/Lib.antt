@@ -1,4 +1,5 @@
 pub use Rattle.au_sound_expressions.specs.Blocks
+pub use Rattle.au_sound_expressions.specs.Held
 pub use Rattle.au_sound_expressions.specs.Known
 pub use Rattle.au_sound_expressions.specs.Lives
 pub use Rattle.au_sound_expressions.specs.Actions

@@ -25,7 +25,7 @@ use Rattle.au_meaning.specs.Names.{Scope, variable_of}
 use Rattle.au_meaning.specs.Ticks.{Action, pure, tick, ◌>>=◌}
 use Rattle.au_meaning.specs.Views.{Callee, View}
 use Rattle.au_meaning.specs.Worlds.{Value, World}
-use Rattle.au_running_judgements.specs.Good.{Good, IsRunning}
+use Rattle.au_running_judgements.specs.Good.{IsRunning}
 use Rattle.au_running_judgements.specs.Making.{values_of}
 use Rattle.au_running_judgements.proofs.GoodLemmas.{good_so, good_then}
 use Rattle.au_running_judgements.specs.Orders.{AreApart, IsReordered}
@@ -35,7 +35,7 @@ use Rattle.au_running_judgements.specs.Lives.{AreReady, Standing}
 use Rattle.au_running_judgements.specs.Picking.{AreTypesUnder}
 use Rattle.au_running_judgements.specs.Uses.{uses, uses_all, uses_named}
 use Rattle.au_sound_expressions.specs.Actions.{ActionsAreSafe}
-use Rattle.au_sound_expressions.specs.Safe.{After, AllWait, CallsSafe, Waits, frame}
+use Rattle.au_sound_expressions.specs.Safe.{After, AllWait, CallsSafe, Stands, frame}
 use Rattle.au_sound_expressions.proofs.HoldLemmas.{regrouped}
 use Rattle.au_sound_expressions.proofs.ActLemmas.{arrow_safe, borrow_safe, calls_good, deref_safe, into_safe}
 use Rattle.au_sound_expressions.proofs.ActLemmas.{mention_safe, part_safe}
@@ -44,18 +44,21 @@ use Rattle.au_sound_expressions.proofs.LeafLemmas.{In, Left, Safe, both_after, l
 use Rattle.au_sound_expressions.proofs.LeafLemmas.{stays, ticks_well}
 use Rattle.au_sound_expressions.proofs.OperatorLemmas.{joins_safe}
 use Rattle.au_sound_expressions.proofs.PickLemmas.{length_types, types_under}
+use Rattle.au_running_judgements.specs.Held.{AllHeld, GoodHeld, Permits}
 
-module _ (types : Types) (owner : ClosedType → Option (List ℕ)) (laws : ActionsAreSafe types owner)
+module _ (types : Types) (owner : ClosedType → Option (List ℕ)) {V W : Type 0} (permits : Permits V W)
+    (laws : ActionsAreSafe types owner)
     (a : Act) (older : List Act) (names : ℕ → Meaning) (fs : List Frame) (sizes : List ℕ) (size : ℕ)
-    (running : IsRunning sizes fs size) where
+    (running : IsRunning sizes fs size) (below : AllHeld permits fs) where
   abbrev Ins : Standing → Made → World → Type 0
-  Ins h under w = In types owner laws a older names fs sizes size running h under w
+  Ins h under w = In types owner permits laws a older names fs sizes size running below h under w
 
   abbrev Lefts : Meaning → Standing → (ℕ → ℕ) → (ℕ → Counts) → Made → Value → World → Type 0
-  Lefts t h consumed rest under v n = Left types owner laws a older names fs sizes size running t h consumed rest under v n
+  Lefts t h consumed rest under v n = Left types owner permits laws a older names fs sizes size running below t h
+      consumed rest under v n
 
   abbrev IsSafe : (ℕ → Counts) → (Meaning → Type 0) → Action Value → Type 0
-  IsSafe counts A action = Safe types owner laws a older names fs sizes size running counts A action
+  IsSafe counts A action = Safe types owner permits laws a older names fs sizes size running below counts A action
 
   -- what arguments leave, and their values
   pub record AllLeft (kinds : List Meaning) (h : Standing) (consumed : ℕ → ℕ) (rest : ℕ → Counts) (under : Made)
@@ -63,14 +66,14 @@ module _ (types : Types) (owner : ClosedType → Option (List ℕ)) (laws : Acti
     pub made : Made
     pub are : vs ≡ values_of made
     pub have : types_made made ≡ kinds
-    pub after : After types owner (a ∷ older) names fs sizes a.token h consumed rest (onto made under) n
+    pub after : After types owner permits (a ∷ older) names fs sizes a.token h consumed rest (onto made under) n
 
   -- arguments are safe
   abbrev pub AllSafe : (ℕ → Counts) → (List Meaning → Type 0) → Action (List Value) → Type 0
   AllSafe counts A action =
       (kinds : List Meaning) → A kinds → (rest : ℕ → Counts) (h : Standing) (under : Made) (w : World) (ticks : ℕ)
-      → AreReady h (λ k. plus (counts k) (rest k)) → ((k : ℕ) → Waits (is_active (a ∷ older)) (h k)) → Ins h under w
-      → Good owner (AllLeft kinds h (λ k. (counts k).consumed) rest under) (action w ticks)
+      → AreReady h (λ k. plus (counts k) (rest k)) → Stands permits (is_active (a ∷ older)) h names → Ins h under w
+      → GoodHeld types owner permits (AllLeft kinds h (λ k. (counts k).consumed) rest under) (action w ticks)
 
   -- no arguments
   none_safe : AllSafe (λ k. unmentioned) (λ kinds. kinds ≡ []) (pure [])
@@ -78,7 +81,8 @@ module _ (types : Types) (owner : ClosedType → Option (List ℕ)) (laws : Acti
     made = [];
     are = refl;
     have = sym is;
-    after = stays types owner laws a older names fs sizes size running (λ k. unmentioned) rest h under w (λ k. refl) met
+    after = stays types owner permits laws a older names fs sizes size running below (λ k. unmentioned) rest h under
+        w (λ k. refl) met
         waits state;
   }
 
@@ -94,21 +98,23 @@ module _ (types : Types) (owner : ClosedType → Option (List ℕ)) (laws : Acti
       let both = λ (k : ℕ). plus (cb k) (rest k) in
       let t = fits.0 in
       let q = AllLeft kinds h (λ k. (ca k).consumed + (cb k).consumed) rest under in
-      good_then owner (Lefts t h c both under) q (one w ticks) (λ v. others >>= (λ vs. pure (v ∷ vs)))
+      good_then owner _ (Lefts t h c both under) q (one w ticks) (λ v. others >>= (λ vs. pure (v ∷ vs)))
       (safe_one t fits.3 both h under w ticks (regrouped h ca cb rest met) waits state) (λ v n left first.
-      good_then owner (AllLeft fits.1 first.hold d rest ((v, t) ∷ under)) q (others n left) (λ vs. pure (v ∷ vs))
+      good_then owner _ (AllLeft fits.1 first.hold d rest ((v, t) ∷ under)) q (others n left) (λ vs. pure (v ∷ vs))
       (safe_others fits.1 fits.4 rest first.hold ((v, t) ∷ under) n left first.met first.waits first.state)
       (λ vs m more second. record {
         made = (v, t) ∷ second.made;
         are = ap (λ (xs : List Value). v ∷ xs) second.are;
         have = ap (λ (ts : List Meaning). t ∷ ts) second.have ∙ sym fits.2;
-        after = both_after types owner laws a older names fs sizes size running h c d both rest ((v, t) ∷ under)
+        after = both_after types owner permits laws a older names fs sizes size running below h c d both rest
+            ((v, t) ∷ under)
             (onto second.made ((v, t) ∷ under)) (onto second.made ((v, t) ∷ under)) n m m first second.after
             second.after.state;
       }))
 
   module _ {I T C K : Type 0} (see : View I T C) (known : Callables I K) (invoke : I → List Value → Action Value)
-      (calls_safe : CallsSafe types owner known invoke) (waiting : AllWait (is_active (a ∷ older)) fs) where
+      (calls_safe : CallsSafe types owner permits known invoke)
+      (waiting : AllWait permits (is_active (a ∷ older)) fs) where
     abbrev Of : Scope → Expression Bytes T C → Meaning → Type 0
     Of scope e t = IsOf types owner see known names a.token (is_active (a ∷ older)) scope e t
 
@@ -130,7 +136,7 @@ module _ (types : Types) (owner : ClosedType → Option (List ℕ)) (laws : Acti
         let c = λ (k : ℕ). (counts k).consumed in
         let q = Lefts t h (λ k. (counts k).consumed) rest under in
         let one = fits.0 in
-        good_then owner (AllLeft fits.1 h c rest under) q (args w ticks)
+        good_then owner _ (AllLeft fits.1 h c rest under) q (args w ticks)
         (λ vs. tick (calls see invoke o (by_position vs))) (safe fits.1 fits.3 rest h under w ticks met waits state)
         (λ vs n left all.
         let many : length (values_of all.made) ≡ length one.parameters =
@@ -138,11 +144,13 @@ module _ (types : Types) (owner : ClosedType → Option (List ℕ)) (laws : Acti
         let ordered : by_position (values_of all.made) one.parameters ≡ Some (values_of all.made) =
         ap (λ (b : Bool). if b then Some (values_of all.made) else None)
         (eq-eqb (length (values_of all.made)) (length one.parameters) many) in
-        subst (λ (xs : List Value). Good owner q (tick (calls see invoke o (by_position xs)) n left)) (sym all.are)
-        (ticks_well types owner laws a older names fs sizes size running q
-        (calls see invoke o (by_position (values_of all.made))) all.after.hold (onto all.made under) n left all.after.state
+        subst (λ (xs : List Value). GoodHeld types owner permits q
+            (tick (calls see invoke o (by_position xs)) n left)) (sym all.are)
+        (ticks_well types owner permits laws a older names fs sizes size running below q
+        (calls see invoke o (by_position (values_of all.made))) all.after.hold (onto all.made under) n left
+        all.after.waits all.after.state
         (λ more.
-        good_so owner (λ (v : Value) m. Ins all.after.hold ((v, t) ∷ under) m) q
+        good_so owner _ (λ (v : Value) m. Ins all.after.hold ((v, t) ∷ under) m) q
         (calls see invoke o (by_position (values_of all.made)) n more)
         (λ v m good. record {
           hold = all.after.hold;
@@ -151,13 +159,15 @@ module _ (types : Types) (owner : ClosedType → Option (List ℕ)) (laws : Acti
           waits = all.after.waits;
           state = good;
         })
-        (calls_good types owner laws a older names fs sizes size running see known invoke calls_safe waiting all.after.hold
+        (calls_good types owner permits laws a older names fs sizes size running below see known invoke calls_safe
+        waiting all.after.hold
         all.made under n more all.after.waits all.after.state o one t (by_position (values_of all.made)) fits.2 ordered
         (subst (λ (ks : List Meaning). Performs types owner see known (is_active (a ∷ older)) one.act ks t)
         (sym all.have) fits.5)))))
 
     -- so is a call whose arguments have labels, which are brought into the order of the parameters
-    named_call_safe : (o : Option (Callee I)) (counts : ℕ → Counts) (names_given : List Bytes) (A : List Meaning → Type 0)
+    named_call_safe : (o : Option (Callee I)) (counts : ℕ → Counts) (names_given : List Bytes)
+        (A : List Meaning → Type 0)
         → ((kinds : List Meaning) → A kinds → length kinds ≡ length names_given) → (args : Action (List Value))
         → AllSafe counts A args
         → IsSafe counts
@@ -169,7 +179,7 @@ module _ (types : Types) (owner : ClosedType → Option (List ℕ)) (laws : Acti
         let c = λ (k : ℕ). (counts k).consumed in
         let q = Lefts t h (λ k. (counts k).consumed) rest under in
         let one = fits.0 in
-        good_then owner (AllLeft fits.1 h c rest under) q (args w ticks)
+        good_then owner _ (AllLeft fits.1 h c rest under) q (args w ticks)
         (λ vs. tick (calls see invoke o (by_labels (labelled names_given vs))))
         (safe fits.1 fits.4 rest h under w ticks met waits state)
         (λ vs n left all.
@@ -179,15 +189,18 @@ module _ (types : Types) (owner : ClosedType → Option (List ℕ)) (laws : Acti
         let typed : types_made brought.0 ≡ fits.2 =
         types_under one.parameters names_given all.made brought.0 fits.2 brought.3
         (subst (λ (ks : List Meaning). AreTypesUnder one.parameters names_given ks fits.2) (sym all.have) fits.7) in
-        let placed = laws.reordered (a ∷ older) (frame all.after.hold names ∷ fs) sizes under n all.made brought.0 brought.2
+        let placed = laws.reordered (a ∷ older) (frame all.after.hold names ∷ fs) sizes under n all.made brought.0
+            brought.2
         all.after.state in
-        subst (λ (xs : List Value). Good owner q (tick (calls see invoke o (by_labels (labelled names_given xs))) n left))
+        subst (λ (xs : List Value). GoodHeld types owner permits q
+            (tick (calls see invoke o (by_labels (labelled names_given xs))) n left))
         (sym all.are)
-        (ticks_well types owner laws a older names fs sizes size running q
-        (calls see invoke o (by_labels (labelled names_given (values_of all.made)))) all.after.hold (onto brought.0 under) n
-        left placed
+        (ticks_well types owner permits laws a older names fs sizes size running below q
+        (calls see invoke o (by_labels (labelled names_given (values_of all.made)))) all.after.hold
+        (onto brought.0 under) n
+        left all.after.waits placed
         (λ more.
-        good_so owner (λ (v : Value) m. Ins all.after.hold ((v, t) ∷ under) m) q
+        good_so owner _ (λ (v : Value) m. Ins all.after.hold ((v, t) ∷ under) m) q
         (calls see invoke o (by_labels (labelled names_given (values_of all.made))) n more)
         (λ v m good. record {
           hold = all.after.hold;
@@ -196,8 +209,10 @@ module _ (types : Types) (owner : ClosedType → Option (List ℕ)) (laws : Acti
           waits = all.after.waits;
           state = good;
         })
-        (calls_good types owner laws a older names fs sizes size running see known invoke calls_safe waiting all.after.hold
-        brought.0 under n more all.after.waits placed o one t (by_labels (labelled names_given (values_of all.made))) fits.3
+        (calls_good types owner permits laws a older names fs sizes size running below see known invoke calls_safe
+        waiting all.after.hold
+        brought.0 under n more all.after.waits placed o one t (by_labels (labelled names_given (values_of all.made)))
+        fits.3
         brought.1
         (subst (λ (ks : List Meaning). Performs types owner see known (is_active (a ∷ older)) one.act ks t)
         (sym typed) fits.8)))))
@@ -213,26 +228,31 @@ module _ (types : Types) (owner : ClosedType → Option (List ℕ)) (laws : Acti
       pub eval_safe : (scope : Scope) (e : Expression Bytes T C)
           → IsSafe (λ k. uses see k scope e) (Of scope e) (eval see invoke scope e)
       eval_safe scope (number n l) =
-          literal_safe types owner laws a older names fs sizes size running (kind_in (see.type_of n.note)) l.value
+          literal_safe types owner permits laws a older names fs sizes size running below
+          (kind_in (see.type_of n.note)) l.value
       eval_safe scope (negative n l) =
-          literal_safe types owner laws a older names fs sizes size running (kind_in (see.type_of n.note)) (neg_ℤ l.value)
+          literal_safe types owner permits laws a older names fs sizes size running below
+          (kind_in (see.type_of n.note)) (neg_ℤ l.value)
       eval_safe scope (text n bytes) = λ t is.
-          plain_safe types owner laws a older names fs sizes size running (values.text bytes) t
+          plain_safe types owner permits laws a older names fs sizes size running below (values.text bytes) t
           (subst (IsPlain (values.text bytes)) (sym is) tt)
       eval_safe scope (truth n b) = λ t is.
-          plain_safe types owner laws a older names fs sizes size running (values.truth b) t
+          plain_safe types owner permits laws a older names fs sizes size running below (values.truth b) t
           (subst (IsPlain (values.truth b)) (sym is) tt)
       eval_safe scope (nil n) = λ t is.
-          plain_safe types owner laws a older names fs sizes size running values.unit t
+          plain_safe types owner permits laws a older names fs sizes size running below values.unit t
           (subst (IsPlain values.unit) (sym is) tt)
       eval_safe scope (path n x []) =
-          mention_safe types owner laws a older names fs sizes size running see known (variable_of scope x.name) n.note
+          mention_safe types owner permits laws a older names fs sizes size running below see known
+          (variable_of scope x.name) n.note
           x.name
       eval_safe scope (path n x (field ∷ fields)) =
-          into_safe types owner laws a older names fs sizes size running see known (variable_of scope x.name)
+          into_safe types owner permits laws a older names fs sizes size running below see known
+          (variable_of scope x.name)
           (names_of (field ∷ fields))
       eval_safe scope (arrow n r fields) =
-          arrow_safe types owner laws a older names fs sizes size running see known (variable_of scope r.name)
+          arrow_safe types owner permits laws a older names fs sizes size running below see known
+          (variable_of scope r.name)
           (names_of fields)
       eval_safe scope (call n f args c) =
           call_safe (see.callee n.note c f.name) (λ k. uses_all see k scope args) (AllOf scope args)
@@ -242,30 +262,35 @@ module _ (types : Types) (owner : ClosedType → Option (List ℕ)) (laws : Acti
           (AllNamed scope args) (many_named scope args) (eval_named see invoke scope args) (named_safe scope args)
       eval_safe scope (parenthesized n e) = eval_safe scope e
       eval_safe scope (dereference n e) =
-          deref_safe types owner laws a older names fs sizes size running see known (alone scope e)
+          deref_safe types owner permits laws a older names fs sizes size running below see known (alone scope e)
           (λ k. uses see k scope e) (Of scope e) (eval see invoke scope e) (eval_safe scope e)
       eval_safe scope (borrow n m x) =
-          borrow_safe types owner laws a older names fs sizes size running see known m (variable_of scope x.name)
+          borrow_safe types owner permits laws a older names fs sizes size running below see known m
+          (variable_of scope x.name)
       eval_safe scope (borrow_part n r fields) =
-          part_safe types owner laws a older names fs sizes size running see known (variable_of scope r.name)
+          part_safe types owner permits laws a older names fs sizes size running below see known
+          (variable_of scope r.name)
           (names_of fields)
       eval_safe scope (binary n op one two) =
-          joins_safe types owner laws a older names fs sizes size running see known invoke n.note (note_of one)
+          joins_safe types owner permits laws a older names fs sizes size running below see known invoke n.note
+          (note_of one)
           (λ k. uses see k scope one) (λ k. uses see k scope two) (Of scope one) (Of scope two)
           (eval see invoke scope one) (eval see invoke scope two) (eval_safe scope one) (eval_safe scope two)
           (operation_of op)
       eval_safe scope (negation n e) =
-          negation_safe types owner laws a older names fs sizes size running (λ k. uses see k scope e) (Of scope e)
+          negation_safe types owner permits laws a older names fs sizes size running below (λ k. uses see k scope e)
+          (Of scope e)
           (eval see invoke scope e) (eval_safe scope e)
       eval_safe scope (typed n e written) = eval_safe scope e
       eval_safe scope (choice n c one two) = λ t fits rest h under w ticks met waits state.
-          chosen_safe types owner laws a older names fs sizes size running (λ k. uses see k scope c)
+          chosen_safe types owner permits laws a older names fs sizes size running below (λ k. uses see k scope c)
           (λ k. uses see k scope one) (λ k. uses see k scope two) (Of scope one) (Of scope two)
           (eval see invoke scope one) (eval see invoke scope two) (eval_safe scope one) (eval_safe scope two)
           (λ k. (fits.3 k).0) (λ k. (fits.3 k).1) t fits.1 fits.2 rest h under (eval see invoke scope c) w ticks
           (eval_safe scope c type.truth fits.0
           (λ k. plus (plus (uses see k scope one) (uses see k scope two)) (rest k)) h under w ticks
-          (regrouped h (λ k. uses see k scope c) (λ k. plus (uses see k scope one) (uses see k scope two)) rest met) waits
+          (regrouped h (λ k. uses see k scope c) (λ k. plus (uses see k scope one) (uses see k scope two)) rest met)
+          waits
           state)
 
       -- arguments in order

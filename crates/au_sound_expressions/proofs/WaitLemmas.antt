@@ -1,8 +1,9 @@
 -- Names wait for tokens that are active: so a token that begins is new to them, and one that ends leaves the others.
-use Rattle.std.proofs.Common.{◌≡◌, ℕ, ◌==◌, Bool, true, false, List, [], ◌∷◌, refl, ap, ap₂, ◌∙◌}
+use Rattle.std.proofs.Common.{◌≡◌, ◌⊎◌, inl, inr, ℕ, ◌==◌, Bool, true, false, List, [], ◌∷◌, refl, ap, ap₂, ◌∙◌}
 use Rattle.std.proofs.Common.{if◌then◌else◌}
 use Rattle.std.proofs.lemmas.Bool.{eqb-true}
 use Rattle.au_base.proofs.BoolLemmas.{never_both}
+use Rattle.au_types.specs.Types.{Meaning}
 use Rattle.au_memory.specs.Forests as forest
 use Rattle.au_memory.specs.Forests.{Hold, empty, shut, watched}
 use Rattle.au_lending.specs.Ending.{freed, left_watched, others_of}
@@ -10,7 +11,10 @@ use Rattle.au_borrows.specs.Orders.{Act, is_active}
 use Rattle.au_running_judgements.specs.Frames.{Frame}
 use Rattle.au_running_judgements.specs.Closing.{freed_frame, freed_frames}
 use Rattle.au_running_judgements.specs.Known.{AreActive}
-use Rattle.au_sound_expressions.specs.Safe.{AllWait, Waits}
+use Rattle.au_running_judgements.specs.Lives.{Standing}
+use Rattle.au_running_judgements.specs.Held.{AllHeld, IsHeld, IsPermitted, Permits}
+use Rattle.au_sound_expressions.specs.Safe.{AllWait, Stands, Waits, frame}
+use Rattle.au_sound_expressions.proofs.HoldLemmas.{waits_put}
 
 -- ---- a token that isn't active
 
@@ -41,12 +45,13 @@ frame_stays active z f waits off =
     let same : (k : ℕ) → freed z (f.hold k) ≡ f.hold k = λ k. fresh active z (f.hold k) (waits k) off in
     λ i. record { hold = λ k. same k i; type = f.type }
 
-pub frames_stay : (active : ℕ → Bool) (z : ℕ) (fs : List Frame) → AllWait active fs → active z ≡ false
+pub frames_stay : {V W : Type 0} (permits : Permits V W) (active : ℕ → Bool) (z : ℕ) (fs : List Frame) → AllWait
+    permits active fs → active z ≡ false
     → freed_frames z fs ≡ fs
-frames_stay active z [] waits off = refl
-frames_stay active z (f ∷ fs) waits off =
-    ap₂ (λ (g : Frame) (gs : List Frame). g ∷ gs) (frame_stays active z f waits.0 off)
-    (frames_stay active z fs waits.1 off)
+frames_stay permits active z [] waits off = refl
+frames_stay permits active z (f ∷ fs) waits off =
+    ap₂ (λ (g : Frame) (gs : List Frame). g ∷ gs) (frame_stays active z f waits.0.0 off)
+    (frames_stay permits active z fs waits.1 off)
 
 -- ---- more tokens
 
@@ -63,11 +68,11 @@ waits_more one two more (shut z) waits = more z waits
 waits_more one two more (watched []) waits = absurd waits
 waits_more one two more (watched (z ∷ zs)) waits = are_more one two more (z ∷ zs) waits
 
-pub all_more : (one two : ℕ → Bool) → ((z : ℕ) → one z ≡ true → two z ≡ true) → (fs : List Frame) → AllWait one fs
-    → AllWait two fs
-all_more one two more [] waits = tt
-all_more one two more (f ∷ fs) waits =
-    (λ k. waits_more one two more (f.hold k) (waits.0 k), all_more one two more fs waits.1)
+pub all_more : {V W : Type 0} (permits : Permits V W) (one two : ℕ → Bool)
+    → ((z : ℕ) → one z ≡ true → two z ≡ true) → (fs : List Frame) → AllWait permits one fs → AllWait permits two fs
+all_more permits one two more [] waits = tt
+all_more permits one two more (f ∷ fs) waits =
+    ((λ k. waits_more one two more (f.hold k) (waits.0.0 k), waits.0.1), all_more permits one two more fs waits.1)
 
 -- one token more is active
 pub active_more : (a : Act) (older : List Act) (z : ℕ) → is_active older z ≡ true → is_active (a ∷ older) z ≡ true
@@ -88,7 +93,8 @@ others_active : (a : Act) (older : List Act) (zs : List ℕ) → AreActive (is_a
 others_active a older [] are = tt
 others_active a older (z ∷ zs) are = by (a.token == z) are.0 (others_active a older zs are.1)
   where
-    by : (b : Bool) → (if b then true else is_active older z) ≡ true → AreActive (is_active older) (others_of a.token zs)
+    by : (b : Bool) → (if b then true else is_active older z) ≡ true → AreActive (is_active older)
+        (others_of a.token zs)
         → AreActive (is_active older) (if b then others_of a.token zs else z ∷ others_of a.token zs)
     by true is rest = rest
     by false is rest = (is, rest)
@@ -106,3 +112,35 @@ waits_freed a older (shut y) waits = by (a.token == y) waits
 waits_freed a older (watched []) waits = absurd waits
 waits_freed a older (watched (y ∷ zs)) waits =
     left_waits (is_active older) (others_of a.token (y ∷ zs)) (others_active a older (y ∷ zs) waits)
+
+-- ---- what names hold
+
+-- in frames whose names wait, they hold what they may
+pub all_held : {V W : Type 0} (permits : Permits V W) (active : ℕ → Bool) (fs : List Frame)
+    → AllWait permits active fs → AllHeld permits fs
+all_held permits active [] waits = tt
+all_held permits active (f ∷ fs) waits = (waits.0.1, all_held permits active fs waits.1)
+
+-- names of which more are empty hold what they may
+pub held_fewer : {V W : Type 0} (permits : Permits V W) (h g : Standing) (names : ℕ → Meaning)
+    → ((k : ℕ) → h k ≡ empty → g k ≡ empty) → IsHeld permits (frame h names) → IsHeld permits (frame g names)
+held_fewer permits h g names fewer held = (held.0, λ k. by k (held.1 k))
+  where
+    by : (k : ℕ) → (h k ≡ empty) ⊎ IsPermitted permits held.0 (names k)
+        → (g k ≡ empty) ⊎ IsPermitted permits held.0 (names k)
+    by k (inl is) = inl (fewer k is)
+    by k (inr may) = inr may
+
+-- a name that stands otherwise is empty where it was
+pub stands_put : {V W : Type 0} (permits : Permits V W) (active : ℕ → Bool) (n : ℕ) (a : Hold) (h : Standing)
+    (names : ℕ → Meaning) → Waits active a → (h n ≡ empty → a ≡ empty) → Stands permits active h names
+    → Stands permits active (λ k. if n == k then a else h k) names
+stands_put permits active n a h names own fewer stands =
+    (waits_put active n a h own stands.0, held_fewer permits h (λ k. if n == k then a else h k) names empties stands.1)
+  where
+    empties : (k : ℕ) → h k ≡ empty → (if n == k then a else h k) ≡ empty
+    empties k is = by (n == k) refl
+      where
+        by : (b : Bool) → (n == k) ≡ b → (if b then a else h k) ≡ empty
+        by true same = fewer (ap h (eqb-true n k same) ∙ is)
+        by false differ = is

@@ -2,6 +2,7 @@ pub use Rattle.au_borrows.specs.Orders
 pub use Rattle.au_running_judgements.specs.Frames
 pub use Rattle.au_running_judgements.specs.Behind
 pub use Rattle.au_running_judgements.specs.Good
+pub use Rattle.au_running_judgements.specs.Held
 pub use Rattle.au_running_judgements.specs.Making
 pub use Rattle.au_running_judgements.specs.Naming
 pub use Rattle.au_running_judgements.specs.Telling

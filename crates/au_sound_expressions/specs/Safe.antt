@@ -11,7 +11,8 @@ use Rattle.au_borrows.specs.Orders.{Act, is_active}
 use Rattle.au_running_judgements.specs.Frames.{Frame}
 use Rattle.au_meaning.specs.Ticks.{Action}
 use Rattle.au_meaning.specs.Worlds.{Value, World}
-use Rattle.au_running_judgements.specs.Good.{Good, IsIn, lying_in}
+use Rattle.au_running_judgements.specs.Good.{IsIn, lying_in}
+use Rattle.au_running_judgements.specs.Held.{GoodHeld, IsHeld, Permits}
 use Rattle.au_running_judgements.specs.Making.{values_of}
 use Rattle.au_running_judgements.specs.Known.{AreActive, Callables}
 use Rattle.au_running_judgements.specs.Lives.{AreReady, Standing, spent}
@@ -24,16 +25,21 @@ Waits active (shut z) = active z ≡ true
 Waits active (watched []) = ⊥
 Waits active (watched (z ∷ zs)) = AreActive active (z ∷ zs)
 
--- so does each name of frames
-abbrev pub AllWait : (ℕ → Bool) → List Frame → Type 0
-AllWait active [] = Unit {0}
-AllWait active (f ∷ fs) = ((k : ℕ) → Waits active (f.hold k)) × AllWait active fs
-
 -- a frame whose names stand so and have these types
 abbrev pub frame : Standing → (ℕ → Meaning) → Frame
 frame hold names = record { hold = hold; type = names }
 
-module _ (types : Types) (owner : ClosedType → Option (List ℕ)) (acts : List Act) (names : ℕ → Meaning)
+-- So does each name of a frame, and whatever it holds is of a type that is permitted.
+abbrev pub Stands : {V W : Type 0} → Permits V W → (ℕ → Bool) → Standing → (ℕ → Meaning) → Type 0
+Stands permits active hold names = ((k : ℕ) → Waits active (hold k)) × IsHeld permits (frame hold names)
+
+-- so does each name of frames
+abbrev pub AllWait : {V W : Type 0} → Permits V W → (ℕ → Bool) → List Frame → Type 0
+AllWait permits active [] = Unit {0}
+AllWait permits active (f ∷ fs) = Stands permits active f.hold f.type × AllWait permits active fs
+
+module _ (types : Types) (owner : ClosedType → Option (List ℕ)) {V W : Type 0} (permits : Permits V W)
+    (acts : List Act) (names : ℕ → Meaning)
     (fs : List Frame) (sizes : List ℕ) (z : ℕ) where
   -- What an expression of the token z leaves of the running frame, where names stood so before it: a name
   -- is empty where it was consumed, and else stands as before, but for the token; and what is still to come
@@ -44,18 +50,19 @@ module _ (types : Types) (owner : ClosedType → Option (List ℕ)) (acts : List
       pub hold : Standing
       pub met : AreReady hold left
       pub gone : (k : ℕ) → freed z (hold k) ≡ spent (consumed k) (freed z (before k))
-      pub waits : (k : ℕ) → Waits (is_active acts) (hold k)
+      pub waits : Stands permits (is_active acts) hold names
       pub state : IsIn types owner acts (frame hold names ∷ fs) sizes under w
 
 -- Each call is safe that may be made: from wherever its arguments are under way, its result is, and borrows
 -- lie as they did.
-abbrev pub CallsSafe : Types → (ClosedType → Option (List ℕ)) → {I K : Type 0} → Callables I K
+abbrev pub CallsSafe : Types → (ClosedType → Option (List ℕ)) → {V W : Type 0} → Permits V W
+    → {I K : Type 0} → Callables I K
     → (I → List Value → Action Value) → Type 0
-CallsSafe types owner {K = K} known invoke =
+CallsSafe types owner permits {K = K} known invoke =
     (key : K) (acts : List Act) (fs : List Frame) (sizes : List ℕ) (made under : Made) (w : World) (ticks : ℕ)
-    → AreActive (is_active acts) (known.tokens key) → AllWait (is_active acts) fs → length sizes ≡ length fs
+    → AreActive (is_active acts) (known.tokens key) → AllWait permits (is_active acts) fs → length sizes ≡ length fs
     → types_made made ≡ known.parameters key → IsIn types owner acts fs sizes (onto made under) w
-    → Good owner
+    → GoodHeld types owner permits
     (λ (v : Value) n. IsIn types owner acts fs sizes ((v, known.result key) ∷ under) n
     × (lying_in n ≡ lying_in w))
     (invoke (known.of key) (values_of made) w ticks)

@@ -2,4 +2,4 @@ use Rattle.au_sound_expressions.proofs.LawLemmas.{expressions_safe}
 use Rattle.au_sound_expressions.proofs.laws.expressions_are_safe.Goals as goal
 
 pub returns : goal.returns
-returns g c = λ types owner see known invoke. expressions_safe types owner see known invoke
+returns g c = λ types owner permits see known invoke. expressions_safe types owner permits see known invoke
