@@ -40,7 +40,8 @@ use Rattle.au_caps_lists.specs.Reaching.{Reaches, a_head}
 use Rattle.au_caps_laws.specs.Reach.{ArgumentsAreHanded, GivenReaches, IsReachedOrGiven, ParametersAreHeld}
 use Rattle.au_caps_laws.specs.Reach.{ResultIsHanded, TypesReach, VariablesAreHeld, WrittenTypesReach, declared_in}
 use Rattle.au_caps_laws.specs.Reach.{declared_in_all}
-use Rattle.au_caps_laws.specs.Texts.{arguments_by_block, types_in_block}
+use Rattle.au_judged_bodies.specs.WrittenTypes.{types_in_block}
+use Rattle.au_caps_laws.specs.Texts.{arguments_by_block}
 use Rattle.au_caps_laws.proofs.TextLemmas.{block_handed, block_held}
 
 module _ (given : Given) (a : DeclAt) where

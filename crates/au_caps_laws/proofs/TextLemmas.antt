@@ -19,7 +19,8 @@ use Rattle.au_caps_lists.specs.Holding.{held_in_branches, named_mention, types_m
 use Rattle.au_caps_lists.specs.Mentions.{Mention, bind_mentions, mentions, written_mentions}
 use Rattle.au_caps_laws.specs.Texts.{arguments_by, arguments_by_arms, arguments_by_block, arguments_by_branches}
 use Rattle.au_caps_laws.specs.Texts.{arguments_in, arguments_in_all, arguments_in_named, each_named, each_of}
-use Rattle.au_caps_laws.specs.Texts.{types_bound, types_in_arms, types_in_block, types_in_branches, types_written}
+use Rattle.au_judged_bodies.specs.WrittenTypes.{types_bound, types_in_arms, types_in_block, types_in_branches}
+use Rattle.au_judged_bodies.specs.WrittenTypes.{types_written}
 
 module _ {A : Type 0} (f : A → List Mention) (m : Mention) where
   -- what stands in one of these stands among those

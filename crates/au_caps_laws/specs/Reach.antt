@@ -20,7 +20,8 @@ use Rattle.au_typing.specs.Written.{types_at}
 use Rattle.au_caps_lists.specs.Bodies.{Bodied, params_of}
 use Rattle.au_caps_lists.specs.Holding.{Hands, Holds}
 use Rattle.au_caps_lists.specs.Mentions.{Mention, declared, generic, mentions, written_mentions}
-use Rattle.au_caps_laws.specs.Texts.{arguments_by_block, types_in_block}
+use Rattle.au_judged_bodies.specs.WrittenTypes.{types_in_block}
+use Rattle.au_caps_laws.specs.Texts.{arguments_by_block}
 
 unfoldable mutual
   -- the declared types that stand in a closed type, in arguments and behind references too

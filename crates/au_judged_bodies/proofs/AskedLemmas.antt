@@ -1,7 +1,8 @@
 -- The statements of a good body are as they are asked besides the rules of typing, by induction on them.
 use Rattle.std.proofs.Common.{◌≡◌, ◌⊎◌, inl, inr, ℕ, suc, ◌+◌, Bool, true, false, List, [], ◌∷◌, ◌++◌, length, map}
-use Rattle.std.proofs.Common.{Ok, Err, refl, sym, ap, subst, ◌∙◌, arith, if◌then◌else◌}
+use Rattle.std.proofs.Common.{Option, Some, Ok, Err, refl, sym, ap, subst, ◌∙◌, arith, if◌then◌else◌}
 use Rattle.std.proofs.lemmas.List.{length-map}
+use Rattle.au_judged_types.specs.Bounds.{Bounded}
 use Rattle.au_judged_types.specs.Reasons.{Outcome, means, fails}
 use Rattle.au_lives.specs.declared.lives.Sort.{Sort}
 use Rattle.au_lives.specs.declared.lives.Sort.TheVariants as sort
@@ -14,6 +15,7 @@ use Rattle.au_meaning.specs.Statements as meant
 use Rattle.au_meaning.specs.Statements.{fields_told, with_counter}
 use Rattle.au_meaning.specs.Views.{Field, Function, View}
 use Rattle.au_names.specs.Importing.{given_name}
+use Rattle.au_names.proofs.AmongLemmas.{Among, among-append_left, contains}
 use Rattle.au_program_lives.specs.Scopes.{TypeScope, opened_by, opened_in}
 use Rattle.au_program_lives.specs.Sorts.{held_sort, judged_sort, region_written, written_sort}
 use Rattle.au_program_lives.specs.Variables.{bound_over, parameters_over, variables_after, variables_in}
@@ -26,6 +28,7 @@ use Rattle.au_rules.specs.declared.marks.Role.TheVariants.{Local}
 use Rattle.au_rules.specs.Marks.{arm_marks, block_marks, bound_mark, branch_marks, enclosed, labelled_mark}
 use Rattle.au_rules.specs.Marks.{region_marks, statement_marks}
 use Rattle.au_rules.specs.Once.{AreNew}
+use Rattle.au_syntax.specs.declared.expressions.BorrowMode.{BorrowMode}
 use Rattle.au_syntax.specs.Plain.{Bytes, PlainStatements, plain_arms, plain_bound, plain_branches, plain_statement}
 use Rattle.au_syntax.specs.Statements.{skip, declare, destructure, assign, assign_through, conditional}
 use Rattle.au_syntax.specs.Statements.{conditional_else, case_of, while_loop, for_loop, borrow_in, borrow_typed}
@@ -40,12 +43,16 @@ use Rattle.au_typing.specs.InScope.{after, fixed_variable, is_var, with_bound, w
 use Rattle.au_typing.specs.InScope.{with_variable}
 use Rattle.au_typing.specs.Lookups.{is_free_in, outcome_noted, written_means, written_type}
 use Rattle.au_typing.specs.Notes.{Note, NotedExpression, type_of}
-use Rattle.au_typing.specs.Parts.{borrow_type, mode_for}
+use Rattle.au_typing.specs.Parts.{borrow_type, lent, mode_for}
 use Rattle.au_typing.specs.Scopes.{Scope}
 use Rattle.au_typing.specs.Statements.{IsReference}
 use Rattle.au_typing.specs.Trees.{NotedArms, NotedBranches, NotedStatement, NotedStatements}
-use Rattle.au_judged_bodies.specs.Besides.{Besides, BesidesAll, BesidesArms, BesidesTests, IsNewRegion, MayDropEach}
-use Rattle.au_judged_bodies.specs.Besides.{MayDropIn}
+use Rattle.au_judged_bodies.specs.Besides.{AreFineIn, Besides, BesidesAll, BesidesArms, BesidesTests, IsFineIn}
+use Rattle.au_judged_bodies.specs.Besides.{IsNewRegion}
+use Rattle.au_judged_bodies.specs.WrittenTypes.{types_bound, types_in_arms, types_in_block, types_in_branches}
+use Rattle.au_judged_bodies.specs.WrittenTypes.{types_written}
+use Rattle.au_judged_bodies.proofs.CoverLemmas.{Fits, begun_fits, behind, borrow_holds, left_of, lent_holds, one_of}
+use Rattle.au_judged_bodies.proofs.CoverLemmas.{right_of, with_each, with_lent, with_one}
 use Rattle.au_judged_bodies.specs.Kept as kept
 use Rattle.au_judged_bodies.specs.Lived.{loose_by, may_drop}
 use Rattle.au_judged_bodies.specs.Parts.{Each, EachArm, EachIn, EachTest}
@@ -123,7 +130,14 @@ parts_sorted sorts number (v ∷ vs) ws a =
 
 -- ---- statements
 
-module _ (foreign : Kind → Bytes → Bool) {I : Type 0} (see : View I Note (Unit {0})) (sorts : ℕ → Sort) where
+module _ (foreign : Kind → Bytes → Bool) {I : Type 0} (see : View I Note (Unit {0})) (sorts : ℕ → Sort)
+    (may_hold : Meaning → Type 0) (outside : Outside) (generics : List Bounded)
+    (references : (mode : BorrowMode) (region : Bytes) (t of : Meaning) → lent mode t ≡ Some of → may_hold t
+    → may_hold (borrow_type mode region of)) where
+  -- what is known of what names may hold in a scope, and of what is written there
+  abbrev Held : Scope → List WrittenType → Type 0
+  Held sc ws = Fits may_hold outside generics references sc ws
+
   abbrev K : meaning.Scope → NotedExpression → Type 0
   K scope e = kept.Keeps see scope e
 
@@ -137,20 +151,24 @@ module _ (foreign : Kind → Bytes → Bool) {I : Type 0} (see : View I Note (Un
   marks_of binds = map bound_mark (map (plain_bound (λ (b : Bytes). b)) binds)
 
   -- a name of a written type
-  drops : (number : ℕ) (sc : Scope) (t : WrittenType) → sorts number ≡ written_sort (types_of sc) t
-      → (of : Meaning) → written_type sc t ≡ Ok of → MayDropIn see (loose_by sorts) sc number of
-  drops number sc t asked of formed may =
-      written_drops sc t of formed (sym (ap may_drop asked) ∙ may)
+  drops : (number : ℕ) (sc : Scope) (ws : List WrittenType) → Held sc ws → (t : WrittenType) → Among t ws
+      → sorts number ≡ written_sort (types_of sc) t
+      → (of : Meaning) → written_type sc t ≡ Ok of → IsFineIn see (loose_by sorts) may_hold sc number of
+  drops number sc ws held t there asked of formed = (
+    λ may. written_drops sc t of formed (sym (ap may_drop asked) ∙ may),
+    one_of may_hold outside generics references sc ws held t there of formed,
+  )
 
-  each_drops : (number : ℕ) (sc : Scope) (block : PlainStatements) (binds : List (Bound Bytes))
+  each_drops : (number : ℕ) (sc : Scope) (ws : List WrittenType) → Held sc ws → (block : PlainStatements)
+      (binds : List (Bound Bytes)) → ((w : WrittenType) → Among w (types_bound binds) → Among w ws)
       → AreSorted sorts number (bound_over block (map (plain_bound (λ (b : Bytes). b)) binds) (types_of sc))
-      → MayDropEach see (loose_by sorts) sc number binds
-  each_drops number sc block [] asked = tt
-  each_drops number sc block (b ∷ rest) asked =
+      → AreFineIn see (loose_by sorts) may_hold sc number binds
+  each_drops number sc ws held block [] are asked = tt
+  each_drops number sc ws held block (b ∷ rest) are asked =
       let next : number + 1 ≡ suc number = omega arith in (
-        drops number sc b.of asked.0,
-        subst (λ (n : ℕ). MayDropEach see (loose_by sorts) sc n rest) next
-            (each_drops (number + 1) sc block rest asked.1),
+        drops number sc ws held b.of (are b.of (inl refl)) asked.0,
+        subst (λ (n : ℕ). AreFineIn see (loose_by sorts) may_hold sc n rest) next
+            (each_drops (number + 1) sc ws held block rest (λ w there. are w (inr there)) asked.1),
       )
 
   -- what is inside of a statement comes behind what it declares, of which there is none where something is inside
@@ -205,31 +223,33 @@ module _ (foreign : Kind → Bytes → Bool) {I : Type 0} (see : View I Note (Un
     unfolding statement_marks
 
     go : (number : ℕ) (scope : meaning.Scope) (s : NotedStatement) (rest : PlainStatements) (sc : Scope)
-        (before : List Mark)
+        (before : List Mark) → Held sc (types_written s)
         → AreNew foreign before (statement_marks (plain_statement (λ (b : Bytes). b) s))
         → AreOpen before (types_of sc)
         → AreSorted sorts number (variables_after (plain_statement (λ (b : Bytes). b) s) rest (types_of sc))
         → AreSorted sorts number (variables_inside (plain_statement (λ (b : Bytes). b) s) (types_of sc))
-        → Each see K U number scope s → Besides see (loose_by sorts) number sc scope s
-    go number scope (skip at) rest sc before new open1 own asked each = tt
-    go number scope (declare at binding x t e) rest sc before new open1 own asked each =
-        (keeps see scope e each, drops number sc t own.0)
-    go number scope (destructure at binds e) rest sc before new open1 own asked each =
-        (keeps see scope e each, each_drops number sc rest binds own)
-    go number scope (assign at x fields e) rest sc before new open1 own asked each = keeps see scope e each
-    go number scope (assign_through at x fields e) rest sc before new open1 own asked each = keeps see scope e each
-    go number scope (conditional at tests) rest sc before new open1 own asked each =
-        go_tests number scope tests sc before new open1 asked each
-    go number scope (conditional_else at tests block) rest sc before new open1 own asked each =
+        → Each see K U number scope s → Besides see (loose_by sorts) may_hold number sc scope s
+    go number scope (skip at) rest sc before held new open1 own asked each = tt
+    go number scope (declare at binding x t e) rest sc before held new open1 own asked each =
+        (keeps see scope e each, drops number sc (t ∷ []) held t (inl refl) own.0)
+    go number scope (destructure at binds e) rest sc before held new open1 own asked each =
+        (keeps see scope e each, each_drops number sc (types_bound binds) held rest binds (λ w there. there) own)
+    go number scope (assign at x fields e) rest sc before held new open1 own asked each = keeps see scope e each
+    go number scope (assign_through at x fields e) rest sc before held new open1 own asked each = keeps see scope e each
+    go number scope (conditional at tests) rest sc before held new open1 own asked each =
+        go_tests number scope tests sc before held new open1 asked each
+    go number scope (conditional_else at tests block) rest sc before held new open1 own asked each =
         let ms = branch_marks (plain_branches (λ (b : Bytes). b) tests) in
-        let behind = before ++ ms in
+        let ahead = before ++ ms in
         let vs = variables_in_branches (plain_branches (λ (b : Bytes). b) tests) (types_of sc) in
         let both = parts_sorted sorts number vs (variables_in (plain block) (types_of sc)) asked in (
-          go_tests number scope tests sc before (left_new foreign before ms (enclosed (marks_in block)) new) open1 both.0
-              each.0,
-          go_all (number + names_in_tests tests) scope block sc (behind ++ Opens ∷ [])
-              (inner_new foreign behind (marks_in block) (right_new foreign before ms (enclosed (marks_in block)) new))
-              (later behind (Opens ∷ []) (types_of sc) (λ n. tt)
+          go_tests number scope tests sc before
+              (left_of may_hold outside generics references sc (types_in_branches tests) (types_in_block block) held)
+              (left_new foreign before ms (enclosed (marks_in block)) new) open1 both.0 each.0,
+          go_all (number + names_in_tests tests) scope block sc (ahead ++ Opens ∷ [])
+              (right_of may_hold outside generics references sc (types_in_branches tests) (types_in_block block) held)
+              (inner_new foreign ahead (marks_in block) (right_new foreign before ms (enclosed (marks_in block)) new))
+              (later ahead (Opens ∷ []) (types_of sc) (λ n. tt)
               (later before ms (types_of sc)
               (neutral_stays ms (neutral_tests (plain_branches (λ (b : Bytes). b) tests))) open1))
               (moved sorts (number + length vs) (number + names_in_tests tests) (variables_in (plain block)
@@ -237,26 +257,28 @@ module _ (foreign : Kind → Bytes → Bool) {I : Type 0} (see : View I Note (Un
               (ap (λ (n : ℕ). number + n) (many_tests tests (types_of sc))) both.1)
               each.1,
         )
-    go number scope (case_of at e all) rest sc before new open1 own asked each =
-        (keeps see scope e each.0, go_arms number scope (note_of e) all sc before new open1 asked each.1)
-    go number scope (while_loop at e block) rest sc before new open1 own asked each = (
+    go number scope (case_of at e all) rest sc before held new open1 own asked each =
+        (keeps see scope e each.0, go_arms number scope (note_of e) all sc before held new open1 asked each.1)
+    go number scope (while_loop at e block) rest sc before held new open1 own asked each = (
       keeps see scope e each.0,
-      go_all number scope block sc (before ++ Opens ∷ []) (inner_new foreign before (marks_in block) new)
+      go_all number scope block sc (before ++ Opens ∷ []) held (inner_new foreign before (marks_in block) new)
           (later before (Opens ∷ []) (types_of sc) (λ n. tt) open1) asked each.1,
     )
-    go number scope (for_loop at x first last block) rest sc before new open1 own asked each =
+    go number scope (for_loop at x first last block) rest sc before held new open1 own asked each =
         let mark = Declares Local Values x.name x.at in
         let base = before ++ Opens ∷ [] in
         let inside = inner_new foreign before (mark ∷ marks_in block) new in (
           keeps see scope first each.0,
           keeps see scope last each.1,
-          go_all (number + 1) (with_counter see number x.name first scope) block
-              (with_variable (fixed_variable x.name (type_of first)) sc)
-              (base ++ mark ∷ []) (right_new foreign base (mark ∷ []) (marks_in block) inside)
+          λ may. go_all (number + 1) (with_counter see number x.name first scope) block
+              (with_variable (fixed_variable x.name (type_of first)) sc) (base ++ mark ∷ [])
+              (with_one may_hold outside generics references sc (types_in_block block)
+              (fixed_variable x.name (type_of first)) may held)
+              (right_new foreign base (mark ∷ []) (marks_in block) inside)
               (later base (mark ∷ []) (types_of sc) (λ n. tt) (later before (Opens ∷ []) (types_of sc) (λ n. tt) open1))
               asked.1 each.3,
         )
-    go number scope (borrow_in at a x r region block stop) rest sc before new open1 own asked each =
+    go number scope (borrow_in at a x r region block stop) rest sc before held new open1 own asked each =
         let mark = Declares Local Values r.name r.at in
         let place = Declares Local Types region.name region.at in
         let base = before ++ Opens ∷ [] in
@@ -266,15 +288,21 @@ module _ (foreign : Kind → Bytes → Bool) {I : Type 0} (see : View I Note (Un
         (later before (Opens ∷ []) (types_of sc) (λ n. tt) open1) in (
           new_region foreign (base ++ mark ∷ []) (types_of sc) region.name region.at open2
               (left_new foreign (base ++ mark ∷ []) (place ∷ []) (marks_in block) others),
-          λ of lends.
-              go_all (number + 1)
-              (meaning.with_reference (meaning.mode_of a) (meaning.variable_of scope x.name) number r.name scope) block
-              (with_reference r.name region.name (borrow_type (mode_for a) region.name of) sc)
-              ((base ++ mark ∷ []) ++ place ∷ [])
-              (right_new foreign (base ++ mark ∷ []) (place ∷ []) (marks_in block) others)
-              (region_too (base ++ mark ∷ []) (types_of sc) region.name region.at open2) asked.1 each.1,
+          λ of lends. (
+            lent_holds may_hold outside generics references sc (types_in_block block) held (mode_for a) x.name region.name of lends,
+            go_all (number + 1)
+                (meaning.with_reference (meaning.mode_of a) (meaning.variable_of scope x.name) number r.name scope) block
+                (with_reference r.name region.name (borrow_type (mode_for a) region.name of) sc)
+                ((base ++ mark ∷ []) ++ place ∷ [])
+                (with_lent may_hold outside generics references sc (types_in_block block) r.name region.name
+                (borrow_type (mode_for a) region.name of)
+                (lent_holds may_hold outside generics references sc (types_in_block block) held (mode_for a) x.name region.name of lends)
+                held)
+                (right_new foreign (base ++ mark ∷ []) (place ∷ []) (marks_in block) others)
+                (region_too (base ++ mark ∷ []) (types_of sc) region.name region.at open2) asked.1 each.1,
+          ),
         )
-    go number scope (borrow_typed at r t m x block stop) rest sc before new open1 own asked each =
+    go number scope (borrow_typed at r t m x block stop) rest sc before held new open1 own asked each =
         let mark = Declares Local Values r.name r.at in
         let base = before ++ Opens ∷ [] in
         let ms = region_marks t in
@@ -283,20 +311,26 @@ module _ (foreign : Kind → Bytes → Bool) {I : Type 0} (see : View I Note (Un
         let open2 = later base (mark ∷ []) (types_of sc) (λ n. tt)
         (later before (Opens ∷ []) (types_of sc) (λ n. tt) open1) in
         λ region of good.
-        let inner = opens number t region of block sc (base ++ mark ∷ []) good.written others open2 asked.1 in (
+        let inner = opens number t region of block sc (base ++ mark ∷ []) good.written others open2 asked.1 in
+        let behind_it = right_of may_hold outside generics references sc (t ∷ []) (types_in_block block) held in
+        let may = borrow_holds may_hold outside generics references sc (types_in_block block) behind_it t m x.name region of good in (
           inner.new,
+          may,
           go_all (number + 1) (meaning.with_reference m (meaning.variable_of scope x.name) number r.name scope) block
-              (with_reference r.name region of sc) inner.before inner.marks inner.open1 inner.asked each.1,
+              (with_reference r.name region of sc) inner.before
+              (with_lent may_hold outside generics references sc (types_in_block block) r.name region of may behind_it)
+              inner.marks inner.open1 inner.asked each.1,
         )
-    go number scope (discard at e) rest sc before new open1 own asked each = keeps see scope e each
-    go number scope (return_of at e) rest sc before new open1 own asked each = keeps see scope e each
+    go number scope (discard at e) rest sc before held new open1 own asked each = keeps see scope e each
+    go number scope (return_of at e) rest sc before held new open1 own asked each = keeps see scope e each
 
     pub go_all : (number : ℕ) (scope : meaning.Scope) (b : NotedStatements) (sc : Scope) (before : List Mark)
+        → Held sc (types_in_block b)
         → AreNew foreign before (marks_in b) → AreOpen before (types_of sc)
         → AreSorted sorts number (variables_in (plain b) (types_of sc)) → EachIn see K U number scope b
-        → BesidesAll see (loose_by sorts) number sc scope b
-    go_all number scope no_statements sc before new open1 asked each = tt
-    go_all number scope (statements s rest) sc before new open1 asked each =
+        → BesidesAll see (loose_by sorts) may_hold number sc scope b
+    go_all number scope no_statements sc before held new open1 asked each = tt
+    go_all number scope (statements s rest) sc before held new open1 asked each =
         let ms = statement_marks (plain_statement (λ (b : Bytes). b) s) in
         let own = variables_after (plain_statement (λ (b : Bytes). b) s) (plain rest) (types_of sc) in
         let inside = variables_inside (plain_statement (λ (b : Bytes). b) s) (types_of sc) in
@@ -305,22 +339,25 @@ module _ (foreign : Kind → Bytes → Bool) {I : Type 0} (see : View I Note (Un
         let second = parts_sorted sorts (number + length own) inside others first.1 in
         let same : (number + length own) + length inside ≡ number + names_in s =
         let one = many_inside s (plain rest) (types_of sc) in omega (arith, one) in
-        let behind = alike (number + names_in s) (plain rest) (after s sc) (types_of sc) (before ++ ms)
+        let beyond = alike (number + names_in s) (plain rest) (after s sc) (types_of sc) (before ++ ms)
         (after_types s sc)
         (moved sorts ((number + length own) + length inside) (number + names_in s) others same second.1)
         (later before ms (types_of sc) (neutral_stays ms (neutral (plain_statement (λ (b : Bytes). b) s))) open1) in (
-          go number scope s (plain rest) sc before (left_new foreign before ms (marks_in rest) new) open1 first.0
+          go number scope s (plain rest) sc before
+              (left_of may_hold outside generics references sc (types_written s) (types_in_block rest) held) (left_new foreign before ms (marks_in rest) new) open1 first.0
               (inside_at number s (plain rest) (types_of sc) second.0) each.0,
           go_all (number + names_in s) (meant.after see number s scope) rest (after s sc) (before ++ ms)
-              (right_new foreign before ms (marks_in rest) new) behind.1 behind.0 each.2,
+              (behind may_hold outside generics references s sc (types_in_block rest) held)
+              (right_new foreign before ms (marks_in rest) new) beyond.1 beyond.0 each.2,
         )
 
     go_tests : (number : ℕ) (scope : meaning.Scope) (tests : NotedBranches) (sc : Scope) (before : List Mark)
+        → Held sc (types_in_branches tests)
         → AreNew foreign before (branch_marks (plain_branches (λ (b : Bytes). b) tests)) → AreOpen before (types_of sc)
         → AreSorted sorts number (variables_in_branches (plain_branches (λ (b : Bytes). b) tests) (types_of sc))
-        → EachTest see K U number scope tests → BesidesTests see (loose_by sorts) number sc scope tests
-    go_tests number scope no_branches sc before new open1 asked each = tt
-    go_tests number scope (branches e block rest) sc before new open1 asked each =
+        → EachTest see K U number scope tests → BesidesTests see (loose_by sorts) may_hold number sc scope tests
+    go_tests number scope no_branches sc before held new open1 asked each = tt
+    go_tests number scope (branches e block rest) sc before held new open1 asked each =
         let ms = enclosed (marks_in block) in
         let others = branch_marks (plain_branches (λ (b : Bytes). b) rest) in
         let vs = variables_in (plain block) (types_of sc) in
@@ -328,9 +365,12 @@ module _ (foreign : Kind → Bytes → Bool) {I : Type 0} (see : View I Note (Un
         let both = parts_sorted sorts number vs ws asked in (
           keeps see scope e each.0,
           go_all number scope block sc (before ++ Opens ∷ [])
+              (left_of may_hold outside generics references sc (types_in_block block) (types_in_branches rest) held)
               (inner_new foreign before (marks_in block) (left_new foreign before ms others new))
               (later before (Opens ∷ []) (types_of sc) (λ n. tt) open1) both.0 each.1,
-          go_tests (number + names_in_block block) scope rest sc (before ++ ms) (right_new foreign before ms others new)
+          go_tests (number + names_in_block block) scope rest sc (before ++ ms)
+              (right_of may_hold outside generics references sc (types_in_block block) (types_in_branches rest) held)
+              (right_new foreign before ms others new)
               (later before ms (types_of sc)
               (neutral_stays ms (neutral_enclosed (marks_in block) (neutral_all (plain block)))) open1)
               (moved sorts (number + length vs) (number + names_in_block block) ws
@@ -339,11 +379,14 @@ module _ (foreign : Kind → Bytes → Bool) {I : Type 0} (see : View I Note (Un
         )
 
     go_arms : (number : ℕ) (scope : meaning.Scope) (note : Note) (all : NotedArms) (sc : Scope) (before : List Mark)
+        → Held sc (types_in_arms all)
         → AreNew foreign before (arm_marks (plain_arms (λ (b : Bytes). b) all)) → AreOpen before (types_of sc)
         → AreSorted sorts number (variables_in_arms (plain_arms (λ (b : Bytes). b) all) (types_of sc))
-        → EachArm see K U number scope note all → BesidesArms see (loose_by sorts) number sc scope note all
-    go_arms number scope note no_arms sc before new open1 asked each = tt
-    go_arms number scope note (arms at name binds block rest) sc before new open1 asked each =
+        → EachArm see K U number scope note all → BesidesArms see (loose_by sorts) may_hold number sc scope note all
+    go_arms number scope note no_arms sc before held new open1 asked each = tt
+    go_arms number scope note (arms at name binds block rest) sc before held new open1 asked each =
+        let here_held = left_of may_hold outside generics references sc (types_bound binds ++ types_in_block block)
+        (types_in_arms rest) held in
         let mine = marks_of binds in
         let ms = mine ++ marks_in block in
         let base = before ++ Opens ∷ [] in
@@ -367,12 +410,18 @@ module _ (foreign : Kind → Bytes → Bool) {I : Type 0} (see : View I Note (Un
         (moved sorts (number + length own) (number + length binds) vs here second.0)
         (later base mine (types_of sc) (neutral_stays mine neutral_mine)
         (later before (Opens ∷ []) (types_of sc) (λ n. tt) open1)) in (
-          each_drops number sc (plain block) binds first.0,
+          each_drops number sc (types_bound binds ++ types_in_block block) here_held (plain block) binds
+              (among-append_left (types_bound binds) (types_in_block block)) first.0,
           λ tag.
               go_all (number + length binds) (meaning.with_bound (fields_told see note tag) number binds scope) block
-              (with_bound binds sc) (base ++ mine) (right_new foreign base mine (marks_in block) inside) within.1
+              (with_bound binds sc) (base ++ mine)
+              (right_of may_hold outside generics references (with_bound binds sc) (types_bound binds) (types_in_block block)
+              (with_each may_hold outside generics references binds sc (types_bound binds ++ types_in_block block)
+              (among-append_left (types_bound binds) (types_in_block block)) here_held))
+              (right_new foreign base mine (marks_in block) inside) within.1
               within.0 (each.0 tag).1,
           go_arms (number + (length binds + names_in_block block)) scope note rest sc (before ++ enclosed ms)
+              (right_of may_hold outside generics references sc (types_bound binds ++ types_in_block block) (types_in_arms rest) held)
               (right_new foreign before (enclosed ms) left new)
               (later before (enclosed ms) (types_of sc) (neutral_stays (enclosed ms) neutral_ms) open1)
               (moved sorts ((number + length own) + length vs) (number + (length binds + names_in_block block)) ws there
@@ -414,8 +463,9 @@ params_neutral : (parameters : List (Labelled Bytes)) (n : ℕ) → Stays (map (
 params_neutral [] n = tt
 params_neutral (p ∷ rest) n = params_neutral rest n
 
-pub bodies_asked : {I : Type 0} (f : Function I Note (Unit {0})) → BodiesAreAsked f
-bodies_asked f outside generics header is declared =
+pub bodies_asked : {I : Type 0} (f : Function I Note (Unit {0})) (may_hold : Meaning → Type 0)
+    → BodiesAreAsked f may_hold
+bodies_asked f may_hold outside generics header is declared covers =
     let outer = outer_scope outside (generics_in outside generics) in
     let sorts = λ (k : ℕ). sorts_in f outside generics header k in
     let vs = parameters_over (plain f.body) header.parameters (types_of outer) in
@@ -429,13 +479,18 @@ bodies_asked f outside generics header is declared =
     let given = map (labelled_mark Values) header.parameters in
     let body = block_marks (plain f.body) in
     let number = f.first + length f.parameters in
-    let begins = alike is.foreign f.view sorts number (plain f.body) is.body.scope (types_of outer) (is.before ++ given)
+    let held = begun_fits may_hold outside (generics_in outside generics) covers.references header.parameters header.result
+    is.body.scope (types_in_block f.body)
+    (λ p there. covers.given p (contains header.parameters p there))
+    (λ w there. covers.written w (contains (types_in_block f.body) w there)) is.body.formed in
+    let begins = alike is.foreign f.view sorts may_hold outside (generics_in outside generics) covers.references number (plain f.body) is.body.scope (types_of outer) (is.before ++ given)
     (body_types (with_parameters header.parameters outer) header.result outer is.body.scope
     (λ mid formed. parameters_types header.parameters outer mid formed) is.body.formed)
     (moved sorts (f.first + length vs) number ws (ap (λ (n : ℕ). f.first + n) count) both.1)
     (later is.before given (types_of outer) (params_neutral header.parameters)
     (first_open is.before outside generics declared)) in
-    go_all is.foreign f.view sorts number (scope_of f) f.body is.body.scope (is.before ++ given)
+    go_all is.foreign f.view sorts may_hold outside (generics_in outside generics) covers.references number (scope_of f)
+    f.body is.body.scope (is.before ++ given) held
     (right_new is.foreign is.before given body is.new) begins.1 begins.0
     (bodies_ahead f outside generics header is).2
 

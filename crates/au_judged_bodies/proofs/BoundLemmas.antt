@@ -6,12 +6,13 @@ use Rattle.std.specs.Option.{option_map}
 use Rattle.std.specs.Str.{bytes_eq}
 use Rattle.std.proofs.lemmas.Option.{none-some, same_Some}
 use Rattle.std.proofs.lemmas.Slice.Eq.{bytes_eq-Decides}
+use Rattle.au_base.specs.declared.kinds.IntKind.{IntKind}
 use Rattle.au_syntax.specs.Names.{Placed, Renaming}
 use Rattle.au_syntax.specs.Plain.{Bytes}
 use Rattle.au_syntax.specs.Types.{Bound, WrittenType}
 use Rattle.au_types.specs.declared.types.Region.{Region}
 use Rattle.au_types.specs.declared.types.Region.TheVariants.{Static, Named, Anonymous}
-use Rattle.au_types.specs.Types.{Meaning, writes}
+use Rattle.au_types.specs.Types.{Meaning, integer, writes}
 use Rattle.au_types.proofs.SameLemmas.{same_is}
 use Rattle.au_matching.specs.Bindings.{Bindings}
 use Rattle.au_matching.specs.Substituted.{OfRegion}
@@ -39,12 +40,14 @@ use Rattle.au_known_types.proofs.NotedLemmas.{written_known}
 use Rattle.au_safe_steps.specs.Binding.{bound_fields, field_names}
 use Rattle.au_safe_steps.specs.Orders.{AreApart, IsReordered}
 use Rattle.au_running_lives.specs.Blocks.{AreBound, AreFine, IsFine, MayDrop, with_types}
+use Rattle.au_running_lives.specs.Held.{IsPermitted, Permits}
 use Rattle.au_running_lives.specs.Known.{Callables, InScope}
 use Rattle.au_running_lives.specs.Lives.{put}
 use Rattle.au_running_lives.specs.Picking.{AreTypesUnder, IsTypeUnder}
 use Rattle.au_judged_bodies.specs.Frames.{field_closed}
 use Rattle.au_judged_bodies.proofs.TypedRunsPartLemmas.{field_found}
-use Rattle.au_judged_bodies.specs.Besides.{MayDropEach, MayDropIn}
+use Rattle.au_judged_bodies.specs.Besides.{AreFineIn, IsFineIn}
+use Rattle.au_judged_bodies.specs.Covering.{MayHold}
 use Rattle.au_judged_bodies.specs.Rounds.{EachLasts, PlaceFits, kinds_running, names_of}
 use Rattle.au_judged_bodies.proofs.OnceLemmas.{In, each_there, field_in, found_apart, once_reordered}
 use Rattle.au_judged_bodies.proofs.TypedBlocksPlaceLemmas.{place_later, place_with}
@@ -138,6 +141,7 @@ module _ (sc : Scope) (fields : List Typed) where
 
 module _ (types : Types) (owner : ClosedType → Option (List ℕ)) {I K : Type 0} (see : View I Note (Unit {0}))
     (known : Callables I K) (given : Given) (Stands : Bindings → Type 0) (loose : ℕ → Bool) (result : Meaning)
+    {V W : Type 0} (permits : Permits V W) (key : V) (counts : (kind : IntKind) → IsPermitted permits key (integer kind))
     (active : ℕ → Bool) where
   abbrev Place : ℕ → Scope → meaning.Scope → Bindings → (ℕ → Meaning) → Type 0
   Place number sc scope s names =
@@ -157,9 +161,9 @@ module _ (types : Types) (owner : ClosedType → Option (List ℕ)) {I K : Type 
   scoped_region number sc scope s names p Anonymous is = inr (0, refl)
 
   pub drops : (number at : ℕ) (sc : Scope) (scope : meaning.Scope) (s : Bindings) (names : ℕ → Meaning)
-      → Place number sc scope s names → (t : Meaning) → IsKnownIn sc t → MayDropIn see loose sc at t
-      → IsFine types owner see known result loose at (running s 0 t)
-  drops number at sc scope s names p t whole may is = by (may is)
+      → Place number sc scope s names → (t : Meaning) → IsKnownIn sc t → IsFineIn see loose (MayHold permits key Stands) sc at t
+      → IsFine types loose permits key at (running s 0 t)
+  drops number at sc scope s names p t whole may = (λ is. by (may.0 is), may.1 s p.good)
     where
       by : (is_free_in sc t ≡ true) ⊎ ((of : Meaning) × (region : Region) × (t ≡ writes of region)) → MayDrop types (running s 0 t)
       by (inl free) = inl (p.round.free s sc.regions 0 t p.good whole free)
@@ -174,8 +178,8 @@ module _ (types : Types) (owner : ClosedType → Option (List ℕ)) {I K : Type 
 
   pub drops_each : (number at : ℕ) (sc : Scope) (scope : meaning.Scope) (s : Bindings) (names : ℕ → Meaning)
       → Place number sc scope s names → (fields : List Typed) (binds : List (Bound Bytes))
-      (good : typing.AreBound sc fields binds) → MayDropEach see loose sc at binds
-      → AreFine types owner see known result loose at (bound_kinds sc fields s binds good)
+      (good : typing.AreBound sc fields binds) → AreFineIn see loose (MayHold permits key Stands) sc at binds
+      → AreFine types loose permits key at (bound_kinds sc fields s binds good)
   drops_each number at sc scope s names p fields [] good may = tt
   drops_each number at sc scope s names p fields (b ∷ rest) good may = (
     drops number at sc scope s names p good.0.of (written_known sc b.of good.0.of good.0.formed).0
@@ -188,8 +192,8 @@ module _ (types : Types) (owner : ClosedType → Option (List ℕ)) {I K : Type 
   abbrev pub are_bound : (number : ℕ) (sc : Scope) (scope : meaning.Scope) (s : Bindings) (names : ℕ → Meaning)
       → Place number sc scope s names → (fields : List Typed) (binds : List (Bound Bytes))
       (good : typing.AreBound sc fields binds) → binds_each fields binds ≡ true → AreApart (names_of fields)
-      → MayDropEach see loose sc number binds
-      → AreBound types owner see known result loose number (map (field_closed given) fields) (kinds_running s 0 fields)
+      → AreFineIn see loose (MayHold permits key Stands) sc number binds
+      → AreBound types owner see known result loose permits key number (map (field_closed given) fields) (kinds_running s 0 fields)
       binds
   are_bound number sc scope s names p fields binds good each apart may = record {
     many = as_many given s 0 fields;

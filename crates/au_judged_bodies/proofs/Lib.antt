@@ -16,6 +16,7 @@ pub mod TypedRunsExpressionLemmas
 pub mod TypedRunsPartLemmas
 pub mod BlockLemmas
 pub mod BoundLemmas
+pub mod CoverLemmas
 pub mod OnceLemmas
 pub mod PieceLemmas
 pub mod TypedBlocksPlaceLemmas

@@ -56,14 +56,16 @@ use Rattle.au_known_types.proofs.KnownLemmas.{writes_known}
 use Rattle.au_known_types.proofs.KnownLemmas.{writes_parts}
 use Rattle.au_known_types.proofs.NotedLemmas.{part_known, type_known}
 use Rattle.au_known_types.proofs.ScopeLemmas.{lasts}
-use Rattle.au_running_lives.specs.Blocks.{IsFine, IsWholeOf, Lends, RunsAll}
+use Rattle.au_running_lives.specs.Blocks.{IsFine, IsWholeOf, Lends, MayDrop, RunsAll}
 use Rattle.au_running_lives.specs.Expressions.{Borrows, IsNamed, IsOf, LooksInto, Reaches}
+use Rattle.au_running_lives.specs.Held.{IsPermitted, Permits}
 use Rattle.au_running_lives.specs.Known.{Callables, InScope, with_token}
 use Rattle.au_running_lives.specs.Lives.{put}
 use Rattle.au_judged_bodies.specs.TypedRunsLaws.{Keeps}
 use Rattle.au_judged_bodies.proofs.TypedRunsExpressionLemmas.{had, noted_alike}
 use Rattle.au_judged_bodies.proofs.TypedRunsPartLemmas.{part_leads}
 use Rattle.au_judged_bodies.specs.Besides.{BesidesAll, IsNewRegion}
+use Rattle.au_judged_bodies.specs.Covering.{MayHold}
 use Rattle.au_judged_bodies.specs.Rounds.{EachLasts, PlaceFits, VariableStands}
 use Rattle.au_judged_bodies.proofs.OnceLemmas.{self_is}
 use Rattle.au_judged_bodies.proofs.TypedBlocksPlaceLemmas.{frame_at, opened_stays, place_later, place_open, place_with}
@@ -167,7 +169,8 @@ unfolding universe_of
 integer_free heads params kind = refl
 
 module _ (types : Types) (owner : ClosedType → Option (List ℕ)) {I K : Type 0} (see : View I Note (Unit {0}))
-    (known : Callables I K) (given : Given) (Stands : Bindings → Type 0) (loose : ℕ → Bool) (result : Meaning) where
+    (known : Callables I K) (given : Given) (Stands : Bindings → Type 0) (loose : ℕ → Bool) (result : Meaning)
+    {V W : Type 0} (permits : Permits V W) (key : V) (counts : (kind : IntKind) → IsPermitted permits key (integer kind)) where
   abbrev pub Place : (ℕ → Bool) → ℕ → Scope → meaning.Scope → Bindings → (ℕ → Meaning) → Type 0
   Place active number sc scope s names =
       PlaceFits types owner see known given Stands result active number sc scope s names
@@ -175,13 +178,13 @@ module _ (types : Types) (owner : ClosedType → Option (List ℕ)) {I K : Type 
   abbrev pub AllRun : NotedStatements → Type 0
   AllRun block =
       (active : ℕ → Bool) (number : ℕ) (sc : Scope) (scope : meaning.Scope) (s : Bindings) (names : ℕ → Meaning)
-      → Place active number sc scope s names → GoodBlock block sc → BesidesAll see loose number sc scope block
-      → RunsAll types owner see known result loose active number scope block names
+      → Place active number sc scope s names → GoodBlock block sc → BesidesAll see loose (MayHold permits key Stands) number sc scope block
+      → RunsAll types owner see known result loose permits key active number scope block names
 
   module _ (active : ℕ → Bool) (number : ℕ) (sc : Scope) (scope : meaning.Scope) (s : Bindings) (names : ℕ → Meaning)
       (p : PlaceFits types owner see known given Stands result active number sc scope s names) where
     abbrev pub Whole : NotedExpression → Meaning → Type 0
-    Whole e t = IsWholeOf types owner see known result loose active names scope e t
+    Whole e t = IsWholeOf types owner see known result loose permits key active names scope e t
 
     pub later_on : (later : ℕ) → number ≤ later → Place active later sc scope s names
     later_on later less = place_later types owner see known given Stands result active number later sc scope s names less p
@@ -196,7 +199,7 @@ module _ (types : Types) (owner : ClosedType → Option (List ℕ)) {I K : Type 
     pub wants_whole : (e : NotedExpression) (t : Meaning) → Wants sc e (Some t) → IsKnownIn sc t → is_lasting t ≡ true
         → Keeps see scope e → Whole e (running s 0 t)
     wants_whole e t good whole lasts keeps =
-        whole_of types owner see known given Stands result active number sc scope s names p loose e t good.0
+        whole_of types owner see known given Stands result active number sc scope s names p loose permits key e t good.0
         (wanted (mode_of e) t good.1 whole) keeps (had sc e t good.0 good.1) lasts
 
     pub of_each : (e : NotedExpression) → AllGood sc e → ModeIsKnownIn sc (mode_of e) → Keeps see scope e → (z : ℕ)
@@ -325,14 +328,17 @@ module _ (types : Types) (owner : ClosedType → Option (List ℕ)) {I K : Type 
     pub bound_whole : (e : NotedExpression) (kind : IntKind) → AllGood sc e → ModeIsKnownIn sc (mode_of e)
         → Keeps see scope e → type_of e ≡ integer kind → Whole e (integer kind)
     bound_whole e kind good mode keeps is =
-        whole_of types owner see known given Stands result active number sc scope s names p loose e (integer kind) good mode
+        whole_of types owner see known given Stands result active number sc scope s names p loose permits key e (integer kind) good mode
         keeps is refl
 
-    pub counter_fine : (kind : IntKind) → IsFine types owner see known result loose number (integer kind)
-    counter_fine kind is =
-        inl (p.round.free s sc.regions 0 (integer kind) p.good
-        (integer_known sc.outside.heads (parameters_in sc) sc.regions kind)
-        (integer_free sc.outside.heads (parameters_in sc) kind))
+    pub counter_fine : (kind : IntKind) → IsFine types loose permits key number (integer kind)
+    counter_fine kind = (
+      λ is.
+          inl (p.round.free s sc.regions 0 (integer kind) p.good
+          (integer_known sc.outside.heads (parameters_in sc) sc.regions kind)
+          (integer_free sc.outside.heads (parameters_in sc) kind)),
+      counts kind,
+    )
 
     -- ---- borrow statements
 
@@ -437,28 +443,28 @@ module _ (types : Types) (owner : ClosedType → Option (List ℕ)) {I K : Type 
         writes_known sc.outside.heads (parameters_in sc) (region ∷ sc.regions) of (Named region)
         (opened_known sc.outside.heads (parameters_in sc) sc.regions region of whole) (opened_region region)
 
-    borrow_fine : (m : BorrowMode) (region : Bytes) (of : Meaning) (z : ℕ) (more : Bindings)
-        → value_of region more ≡ Some (in_region (token z))
-        → IsFine types owner see known result loose number (running more 0 (borrow_type m region of))
-    borrow_fine mode.Read region of z more value is =
+    borrow_drops : (m : BorrowMode) (region : Bytes) (of : Meaning) (z : ℕ) (more : Bindings)
+        → value_of region more ≡ Some (in_region (token z)) → MayDrop types (running more 0 (borrow_type m region of))
+    borrow_drops mode.Read region of z more value =
         inl (p.round.readers (running more 0 of) (region_running more 0 (Named region)))
-    borrow_fine mode.Write region of z more value is =
+    borrow_drops mode.Write region of z more value =
         inr (running more 0 of, region_running more 0 (Named region), refl, inr (z, ap (λ o. region_for o region) value))
-    borrow_fine mode.Reborrow region of z more value is =
+    borrow_drops mode.Reborrow region of z more value =
         inr (running more 0 of, region_running more 0 (Named region), refl, inr (z, ap (λ o. region_for o region) value))
 
     pub lent_runs : (m : BorrowMode) (x r region : Bytes) (of : Meaning) (block : NotedStatements) → IsLent sc m x of
         → IsNewRegion sc region → GoodBlock block (with_reference r region (borrow_type m region of) sc)
-        → BesidesAll see loose (number + 1) (with_reference r region (borrow_type m region of) sc)
+        → MayHold permits key Stands (borrow_type m region of)
+        → BesidesAll see loose (MayHold permits key Stands) (number + 1) (with_reference r region (borrow_type m region of) sc)
         (meaning.with_reference m (meaning.variable_of scope x) number r scope) block → AllRun block
-        → Lends types owner see known result loose active number m (meaning.variable_of scope x) names
-        (λ more of. RunsAll types owner see known result loose more (number + 1)
+        → Lends types owner see known result loose permits key active number m (meaning.variable_of scope x) names
+        (λ more of. RunsAll types owner see known result loose permits key more (number + 1)
         (meaning.with_reference m (meaning.variable_of scope x) number r scope) block of)
-    lent_runs m x r region of block its new good besides block_runs z off = (
+    lent_runs m x r region of block its new good holds besides block_runs z off = (
       running more 0 bt,
       subst (λ o. Borrows types owner see known names z active m o (running more 0 bt)) (sym lent_so.means)
           (lent_so.borrows z more region (opened_stays region (in_region (token z)) s sc new 0 of lent_so.whole) value),
-      borrow_fine m region of z more value,
+      (λ is. borrow_drops m region of z more value, holds more (p.round.opens s region z p.good new.1)),
       block_runs (with_token z active) (number + 1) (with_reference r region bt sc)
           (meaning.with_reference m (meaning.variable_of scope x) number r scope) more
           (put number (running more 0 bt) names)

@@ -11,6 +11,7 @@ use Rattle.au_memory.specs.Forests as forest
 use Rattle.au_memory.specs.Forests.{Hold, empty, shut}
 use Rattle.au_lending.specs.Ending.{freed}
 use Rattle.au_running_lives.specs.Lives.{stand}
+use Rattle.au_running_lives.specs.Held.{Permits}
 use Rattle.au_judged_bodies.specs.Samples.{SampleRuns, function}
 
 -- nothing is still to come
@@ -50,8 +51,8 @@ at_one z k same =
     subst (λ (j : ℕ). (if 1 == j then forest.ready else (if 0 == j then shut z else
     (if 0 == j then forest.ready else empty))) ≡ forest.ready) same refl
 
-pub sample_runs : SampleRuns
-sample_runs at binding t owner key = (
+pub sample_runs : {W : Type 0} (permits : Permits (Unit {0}) W) → SampleRuns permits
+sample_runs permits at binding t owner any key = (
   function at binding t,
   refl,
   record {
@@ -62,8 +63,8 @@ sample_runs at binding t owner key = (
     runs = λ active are. (
       truth,
       λ z off. refl,
-      λ is. inl refl,
-      (λ z off. (writes truth (token z), refl, λ is. inl refl, tt), λ z off. refl),
+      (λ is. inl refl, any truth),
+      (λ z off. (writes truth (token z), refl, (λ is. inl refl, any (writes truth (token z))), tt), λ z off. refl),
     );
     ahead = (
       λ k. (refl, refl, refl, refl),

@@ -38,6 +38,7 @@ use Rattle.au_running_lives.specs.Expressions.{IsOf}
 use Rattle.au_running_lives.specs.Known.{Callables, InScope, with_token}
 use Rattle.au_running_lives.specs.Lives.{put}
 use Rattle.au_running_lives.specs.Blocks.{IsWholeOf}
+use Rattle.au_running_lives.specs.Held.{Permits}
 use Rattle.au_judged_bodies.specs.Frames.{AreUsable, FrameFits, IsUsable, VariableIsThere}
 use Rattle.au_judged_bodies.specs.TypedRunsLaws.{Keeps}
 use Rattle.au_judged_bodies.proofs.TypedRunsExpressionLemmas.{runs}
@@ -194,10 +195,10 @@ module _ (types : Types) (owner : ClosedType → Option (List ℕ)) {I K : Type 
         (p.round.calls names (with_token z active) sc scope s z refl refl p.good (frame_at z)) e good wanted keeps
 
     -- of a type without `~`, it is of the same running type in each whole expression
-    pub whole_of : (loose : ℕ → Bool) (e : NotedExpression) (t : Meaning) → AllGood sc e → ModeIsKnownIn sc (mode_of e)
-        → Keeps see scope e → type_of e ≡ t → is_lasting t ≡ true
-        → IsWholeOf types owner see known result loose active names scope e (running s 0 t)
-    whole_of loose e t good wanted keeps same lasts z off =
+    pub whole_of : (loose : ℕ → Bool) {V W : Type 0} (permits : Permits V W) (key : V) (e : NotedExpression)
+        (t : Meaning) → AllGood sc e → ModeIsKnownIn sc (mode_of e) → Keeps see scope e → type_of e ≡ t → is_lasting t ≡ true
+        → IsWholeOf types owner see known result loose permits key active names scope e (running s 0 t)
+    whole_of loose permits key e t good wanted keeps same lasts z off =
         subst (λ u. IsOf types owner see known names z (with_token z active) scope e u)
         (ap (running s z) same ∙ type_lasts s z 0 t lasts) (whole_at e good wanted keeps z)
 

@@ -15,6 +15,7 @@ use Rattle.au_typing.specs.Lookups.{is_free_in, written_type}
 use Rattle.au_typing.specs.Notes.{Note}
 use Rattle.au_typing.specs.Scopes.{Outside, Scope}
 use Rattle.au_judged_bodies.specs.Besides.{BesidesAll}
+use Rattle.au_judged_bodies.specs.Covering.{Covers}
 use Rattle.au_judged_bodies.specs.Lived.{loose_by}
 use Rattle.au_judged_bodies.specs.LivedBodiesBodies.{IsGoodFunction, sorts_in}
 
@@ -24,15 +25,16 @@ AreInBlock before [] = Unit {0}
 AreInBlock before (p ∷ rest) = IsInBlock before Types p.parameter.name.name × AreInBlock before rest
 
 -- Where the type parameters of a good function are declared before its text, nothing is consumed in its body
--- where an expression may leave out to look, the region of each borrow statement is new, and a name may be
--- dropped only where its type allows it.
-abbrev pub BodiesAreAsked : {I : Type 0} → Function I Note (Unit {0}) → Type 0
-BodiesAreAsked f =
+-- where an expression may leave out to look, the region of each borrow statement is new, a name may be
+-- dropped only where its type allows it, and names hold what they may where this covers the body.
+abbrev pub BodiesAreAsked : {I : Type 0} → Function I Note (Unit {0}) → (Meaning → Type 0) → Type 0
+BodiesAreAsked f may_hold =
     (outside : Outside) (generics : List (Constrained Bytes)) (header : Header Bytes)
     (is : IsGoodFunction f outside generics header)
     → AreInBlock is.before generics
-    → BesidesAll f.view (loose_by (sorts_in f outside generics header)) (f.first + length f.parameters)
-    is.body.scope (scope_of f) f.body
+    → Covers may_hold outside (generics_in outside generics) header.parameters f.body
+    → BesidesAll f.view (loose_by (sorts_in f outside generics header)) may_hold
+    (f.first + length f.parameters) is.body.scope (scope_of f) f.body
 
 -- so it is of parameters, by what is written for them, as the names from one on
 abbrev pub MayDropGiven : (ℕ → Bool) → Scope → ℕ → List (Labelled Bytes) → Type 0

@@ -1,5 +1,6 @@
 -- What statements are asked besides the rules of typing: nothing is consumed where it may be left out, the
--- region of a borrow statement is new, and a name is dropped only where its type allows it.
+-- region of a borrow statement is new, a name is dropped only where its type allows it, and it holds what it
+-- may.
 use Rattle.std.specs.Prelude.{◌≡◌, ◌⊎◌, ℕ, suc, ◌+◌, Bool, true, false, List, [], ◌∷◌, length, None, Ok}
 use Rattle.std.specs.List.{list_any}
 use Rattle.std.specs.Str.{bytes_eq}
@@ -31,26 +32,29 @@ abbrev pub IsNewRegion : Scope → Bytes → Type 0
 IsNewRegion sc region =
     (list_any (bytes_eq region) sc.regions ≡ false) × (universe_in (parameters_in sc) region ≡ None)
 
-module _ {I : Type 0} (see : View I Note (Unit {0})) (loose : ℕ → Bool) where
-  -- a name of a type is dropped only where this is Free, or one of references that write
-  abbrev pub MayDropIn : Scope → ℕ → Meaning → Type 0
-  MayDropIn sc number t =
-      loose number ≡ true → (is_free_in sc t ≡ true) ⊎
-      ((of : Meaning) × (region : Region) × (t ≡ writes of region))
+-- by which names are dropped in the end, and which types names may hold
+module _ {I : Type 0} (see : View I Note (Unit {0})) (loose : ℕ → Bool) (may_hold : Meaning → Type 0) where
+  -- A name of a type is dropped only where this is Free, or one of references that write, and it may hold
+  -- values of the type.
+  abbrev pub IsFineIn : Scope → ℕ → Meaning → Type 0
+  IsFineIn sc number t =
+      (loose number ≡ true → (is_free_in sc t ≡ true) ⊎
+      ((of : Meaning) × (region : Region) × (t ≡ writes of region)))
+      × may_hold t
 
   -- so it is of fields that are bound by names from one on
-  abbrev pub MayDropEach : Scope → ℕ → List (Bound Bytes) → Type 0
-  MayDropEach sc number [] = Unit {0}
-  MayDropEach sc number (b ∷ rest) =
-      ((of : Meaning) → written_type sc b.of ≡ Ok of → MayDropIn sc number of)
-      × MayDropEach sc (suc number) rest
+  abbrev pub AreFineIn : Scope → ℕ → List (Bound Bytes) → Type 0
+  AreFineIn sc number [] = Unit {0}
+  AreFineIn sc number (b ∷ rest) =
+      ((of : Meaning) → written_type sc b.of ≡ Ok of → IsFineIn sc number of)
+      × AreFineIn sc (suc number) rest
 
   abbrev mutual
     pub Besides : ℕ → Scope → meaning.Scope → NotedStatement → Type 0
     Besides number sc scope (skip at) = Unit {0}
     Besides number sc scope (declare at binding x t e) =
-        Keeps see scope e × ((of : Meaning) → written_type sc t ≡ Ok of → MayDropIn sc number of)
-    Besides number sc scope (destructure at binds e) = Keeps see scope e × MayDropEach sc number binds
+        Keeps see scope e × ((of : Meaning) → written_type sc t ≡ Ok of → IsFineIn sc number of)
+    Besides number sc scope (destructure at binds e) = Keeps see scope e × AreFineIn sc number binds
     Besides number sc scope (assign at x fields e) = Keeps see scope e
     Besides number sc scope (assign_through at r fields e) = Keeps see scope e
     Besides number sc scope (conditional at tests) = BesidesTests number sc scope tests
@@ -61,17 +65,19 @@ module _ {I : Type 0} (see : View I Note (Unit {0})) (loose : ℕ → Bool) wher
     Besides number sc scope (while_loop at e block) = Keeps see scope e × BesidesAll number sc scope block
     Besides number sc scope (for_loop at name first last block) =
         Keeps see scope first × Keeps see scope last
-        × BesidesAll (number + 1) (with_variable (fixed_variable name.name (type_of first)) sc)
-        (meant.with_counter see number name.name first scope) block
+        × (may_hold (type_of first)
+        → BesidesAll (number + 1) (with_variable (fixed_variable name.name (type_of first)) sc)
+        (meant.with_counter see number name.name first scope) block)
     Besides number sc scope (borrow_in at access x r region block stop) =
         IsNewRegion sc region.name × ((of : Meaning) → IsLent sc (mode_for access) x.name of
-        → BesidesAll (number + 1)
+        → may_hold (borrow_type (mode_for access) region.name of)
+        × BesidesAll (number + 1)
         (with_reference r.name region.name (borrow_type (mode_for access) region.name of) sc)
         (meaning.with_reference (meaning.mode_of access) (meaning.variable_of scope x.name) number r.name
         scope) block)
     Besides number sc scope (borrow_typed at r t mode x block stop) =
         (region : Bytes) (of : Meaning) → GoodBorrow sc t mode x.name region of
-        → IsNewRegion sc region × BesidesAll (number + 1) (with_reference r.name region of sc)
+        → IsNewRegion sc region × may_hold of × BesidesAll (number + 1) (with_reference r.name region of sc)
         (meaning.with_reference mode (meaning.variable_of scope x.name) number r.name scope) block
     Besides number sc scope (discard at e) = Keeps see scope e
     Besides number sc scope (return_of at e) = Keeps see scope e
@@ -92,7 +98,7 @@ module _ {I : Type 0} (see : View I Note (Unit {0})) (loose : ℕ → Bool) wher
     pub BesidesArms : ℕ → Scope → meaning.Scope → Note → NotedArms → Type 0
     BesidesArms number sc scope note no_arms = Unit {0}
     BesidesArms number sc scope note (arms at name binds block rest) =
-        MayDropEach sc number binds
+        AreFineIn sc number binds
         × ((tag : ℕ) → BesidesAll (number + length binds) (with_bound binds sc)
         (meaning.with_bound (meant.fields_told see note tag) number binds scope) block)
         × BesidesArms (number + (length binds + meaning.names_in_block block)) sc scope note rest

@@ -21,6 +21,7 @@ pub use Rattle.au_closing.specs.Bodies
 pub use Rattle.au_closing.specs.Entries
 pub use Rattle.au_closing.specs.Instances
 pub use Rattle.au_closing.specs.Leading
+pub use Rattle.au_running_lives.specs.Held
 pub use Rattle.au_running_lives.specs.Blocks
 pub use Rattle.au_running_lives.specs.Known
 pub use Rattle.au_closed_meanings.specs.Generic
@@ -32,6 +33,8 @@ pub mod OnceFieldsApart
 pub mod Views
 pub mod Frames
 pub mod TypedRunsLaws
+pub mod WrittenTypes
+pub mod Covering
 pub mod Besides
 pub mod TypedBlocksLaws
 pub mod Rounds

@@ -3,7 +3,7 @@ use Rattle.std.specs.Prelude.{ℕ, true, false, List, [], ◌∷◌, Option, Som
 use Rattle.au_base.specs.declared.places.Pos.{Pos}
 use Rattle.au_type_texts.specs.Types as closed
 use Rattle.au_type_texts.specs.Types.{ClosedType}
-use Rattle.au_types.specs.Types.{truth}
+use Rattle.au_types.specs.Types.{Meaning, truth}
 use Rattle.au_syntax.specs.declared.statements.Binding.{Binding}
 use Rattle.au_syntax.specs.declared.types.Access.TheVariants.{Write}
 use Rattle.au_syntax.specs.Expressions as tree
@@ -15,6 +15,7 @@ use Rattle.au_syntax.specs.Types.{WrittenType}
 use Rattle.au_memory.specs.Loans.{Types}
 use Rattle.au_meaning.specs.Views.{Function, View}
 use Rattle.au_running_lives.specs.Blocks.{AllRun}
+use Rattle.au_running_lives.specs.Held.{IsPermitted, Permits}
 use Rattle.au_running_lives.specs.Known.{Callables}
 
 -- types of which all are Free
@@ -60,8 +61,9 @@ module _ (at : Pos) (binding : Binding) (t : WrittenType) where
         (statements (return_of at yes) no_statements));
   }
 
--- It may be run.
-abbrev pub SampleRuns : Type 0
-SampleRuns =
+-- It may be run, where names may hold anything.
+abbrev pub SampleRuns : {W : Type 0} → Permits (Unit {0}) W → Type 0
+SampleRuns permits =
     (at : Pos) (binding : Binding) (t : WrittenType) (owner : ClosedType → Option (List ℕ))
-    → AllRun free_types owner known (λ one. Some (function at binding t))
+    → ((of : Meaning) → IsPermitted permits tt of)
+    → AllRun free_types owner permits known (λ one. Some (function at binding t))

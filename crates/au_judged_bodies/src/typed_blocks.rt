@@ -9,13 +9,15 @@ ghost use Rattle.au_type_texts.specs.Types.{ClosedType};
 ghost use Rattle.au_memory.specs.Loans.{Types};
 ghost use Rattle.au_typing.specs.Notes.{Note};
 ghost use Rattle.au_meaning.specs.Views.{View};
+ghost use Rattle.au_running_lives.specs.Held.{Permits};
 ghost use Rattle.au_running_lives.specs.Known.{Callables};
 ghost use Rattle.au_judged_bodies.specs.StandingTypesStanding.{StandsFor};
 ghost use Rattle.au_judged_bodies.specs.TypedBlocksLaws.{BlocksRun};
 
-/// A good block runs in each frame that fits its scope.
-pub fn blocks_run<I, K>()
+/// A good block runs in each frame that fits its scope, and its names hold what is permitted.
+pub fn blocks_run<I, K, V, W>()
     ensures { (types : Types) (owner : ClosedType → Option (List ℕ)) (see : View I Note (Unit {0}))
         (known : Callables I K) (heads : List (DeclAt × Head)) (params : List Parameter) (given : Given)
-        → BlocksRun types owner see known given (StandsFor heads params given) }
+        (permits : Permits V W) (key : V)
+        → BlocksRun types owner see known given (StandsFor heads params given) permits key }
 {}

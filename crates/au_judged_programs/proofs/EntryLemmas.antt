@@ -28,6 +28,7 @@ use Rattle.au_judged_bodies.specs.Entries.{form_of, is_exit, is_root, root_in}
 use Rattle.au_judged_bodies.specs.Instances.{Instance}
 use Rattle.au_meaning.specs.Meanings.{parameters_of}
 use Rattle.au_judged_bodies.specs.Generic.{field_seen, function_under, generic_functions}
+use Rattle.au_judged_bodies.specs.Held.{Permits}
 use Rattle.au_judged_bodies.specs.StandingTypesStanding.{StandsFor}
 use Rattle.au_owners.specs.Owners.{owner_of}
 use Rattle.au_judged_programs.specs.CheckedChecked.{IsChecked}
@@ -38,9 +39,9 @@ use Rattle.au_judged_bodies.specs.Tables.{has_text, root_text, types_of}
 use Rattle.au_safe_steps.specs.Beginning.{IsExitOf}
 use Rattle.au_sound_calls.specs.Sound.{IsHomeOf}
 use Rattle.au_sound.specs.Runs.{IsEntry, TakesRoot}
-use Rattle.au_judged_programs.proofs.RunLemmas.{runs_well_seen}
+use Rattle.au_judged_programs.proofs.RunLemmas.{runs_held, runs_well_seen}
 use Rattle.au_judged_programs.proofs.SoundEntriesCallLemmas.{calls_of_programs}
-use Rattle.au_judged_programs.specs.Entries.{EntriesRunWell, IsEntryHere}
+use Rattle.au_judged_programs.specs.Entries.{EntriesHoldWell, EntriesRunWell, IsEntryHere}
 use Rattle.au_judged_programs.proofs.TypeLemmas.{exit_is, root_home, type_named}
 
 none_stand : (heads : List (DeclAt × Head)) → StandsFor heads [] [] []
@@ -151,3 +152,10 @@ entries_well program noted checked target entry first input ticks =
     let calls = calls_of_programs program noted checked in
     runs_well_seen program noted (owner_of program) checked calls first (key program noted checked calls target entry)
     (is_entry program noted checked calls target entry first) input ticks
+
+pub entries_held : (program : List ModuleParts) (noted : List NotedParts) {W : Type 0}
+    (permits : Permits (Key program noted) W) → EntriesHoldWell program noted permits
+entries_held program noted permits checked covered target entry first input ticks =
+    let calls = calls_of_programs program noted checked in
+    runs_held program noted (owner_of program) permits checked calls covered first
+    (key program noted checked calls target entry) (is_entry program noted checked calls target entry first) input ticks

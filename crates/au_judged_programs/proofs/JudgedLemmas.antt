@@ -24,6 +24,7 @@ use Rattle.au_running_types.specs.Running.{region_running, running, token}
 use Rattle.au_written_types.specs.Written.{IsRegionName}
 use Rattle.au_modules.specs.Programs.{ModuleParts}
 use Rattle.au_names.specs.HeadsOf.{heads_of}
+use Rattle.au_names.proofs.AmongLemmas.{Among, contains}
 use Rattle.au_judged_bodies.specs.Typing.Bodies.{outer_scope}
 use Rattle.au_judged_bodies.specs.Lookups.{is_free_in, parameters_in, written_type}
 use Rattle.au_judged_bodies.specs.Notes.{Note}
@@ -35,6 +36,8 @@ use Rattle.au_judged_bodies.specs.ClosedTrees.Parts.{field_under}
 use Rattle.au_meaning.specs.Meanings.{scope_of}
 use Rattle.au_meaning.specs.Views.{Function}
 use Rattle.au_judged_bodies.specs.Blocks.{AreFine, MayDrop, MayRun, RunsAll, with_types}
+use Rattle.au_judged_bodies.specs.Held.{Permits}
+use Rattle.au_judged_bodies.specs.Covering.{Covers, MayHold}
 use Rattle.au_judged_bodies.specs.Known.{AreActive, InScope}
 use Rattle.au_judged_bodies.specs.KnownTypes.Known.{IsKnownIn}
 use Rattle.au_judged_bodies.specs.StandingTypesStanding.{StandsFor}
@@ -45,7 +48,7 @@ use Rattle.au_judged_bodies.specs.Besides.{BesidesAll}
 use Rattle.au_judged_bodies.specs.Frames.{TypesAreUsable}
 use Rattle.au_judged_bodies.specs.Begun.{AreMeant, kinds_given}
 use Rattle.au_judged_bodies.specs.Tables.{types_of}
-use Rattle.au_judged_programs.specs.RoundProgramsBodies.{CallsRunHere}
+use Rattle.au_judged_programs.specs.RoundProgramsBodies.{AreGoodHere, CallsRunHere}
 use Rattle.au_judged_programs.specs.CheckedChecked.{IsChecked}
 use Rattle.au_judged_bodies.specs.Bodies.{BodyOf}
 use Rattle.au_judged_bodies.specs.Generic.{field_seen, function_under, generic_functions, view_under}
@@ -166,76 +169,91 @@ module _ (program : List ModuleParts) (noted : List NotedParts) (owner : ClosedT
             (writes_parts (heads_of program) (parameters generics) [] to region (subst (IsKnownIn outer) same whole)).1,
       )
 
-  abbrev Fine : Meaning → ℕ → List Meaning → Type 0
-  Fine result number kinds =
-      AreFine (types_of program) owner function.view (ways program noted) result loose number kinds
+  -- ---- what its names may hold
 
-  fine : (result : Meaning) (number : ℕ) (ps : List (Labelled Bytes)) (ofs : List Meaning) → AreMeant outer ps ofs
-      → MayDropGiven loose outer number ps → Fine result number (kinds_given key.s ofs)
-  fine result number [] [] are may = tt
-  fine result number (p ∷ rest) (of ∷ others) are may =
-      let next : number + 1 ≡ suc number = omega arith in (
-        λ is. drops of (written_known outer p.of of are.0).0 (may.0 is of are.0),
-        subst (λ n. Fine result n (kinds_given key.s others)) next (fine result (number + 1) rest others are.1 may.1),
-      )
-  fine result number [] (of ∷ others) are may = absurd are
-  fine result number (p ∷ rest) [] are may = absurd are
+  module _ {W : Type 0} (permits : Permits (Key program noted) W)
+      (covers : Covers
+      (MayHold permits key (AreGoodHere program noted key.body.place generics given)) outside generics labels
+      key.body.block) where
+    abbrev may_hold : Meaning → Type 0
+    may_hold = MayHold permits key (AreGoodHere program noted key.body.place generics given)
 
-  -- ---- the whole judgement
+    abbrev Fine : ℕ → List Meaning → Type 0
+    Fine number kinds = AreFine (types_of program) loose permits key number kinds
 
-  besides : BesidesAll (view_of program noted key.body given) loose (function.first + length function.parameters)
-      good.0.body.scope (scope_of function) key.body.block
-  besides =
-      subst (λ (ps : List Parameter). BesidesAll (view_under program noted key.body.place ps given) loose
-      (function.first + length function.parameters) good.0.body.scope (scope_of function) key.body.block) (sym alike)
-      (bodies_asked function outside key.body.generics key.body.header good.0 good.1)
+    fine : (number : ℕ) (ps : List (Labelled Bytes)) (ofs : List Meaning)
+        → ((p : Labelled Bytes) → Among p ps → Among p labels) → AreMeant outer ps ofs
+        → MayDropGiven loose outer number ps → Fine number (kinds_given key.s ofs)
+    fine number [] [] more are may = tt
+    fine number (p ∷ rest) (of ∷ others) more are may =
+        let next : number + 1 ≡ suc number = omega arith in (
+          (
+            λ is. drops of (written_known outer p.of of are.0).0 (may.0 is of are.0),
+            covers.given p (contains labels p (more p (inl refl))) of are.0 key.s (stands, key.holds),
+          ),
+          subst (λ n. Fine n (kinds_given key.s others)) next
+              (fine (number + 1) rest others (λ q there. more q (inr there)) are.1 may.1),
+        )
+    fine number [] (of ∷ others) more are may = absurd are
+    fine number (p ∷ rest) [] more are may = absurd are
 
-  module _ (calls : CallsRunHere program noted key.body.place generics given owner (ways program noted)) where
-    runs_at : (active : ℕ → Bool) → AreActive active key.tokens
-        → BodyRuns program noted key.body given owner (ways program noted) loose active (first key.one) key.s (λ k. unit)
-    runs_at active are =
-        body_runs program noted key.body given owner (ways program noted) checked good.0.body
-        (constants_of_programs_stand program noted checked key.body.place generics given) calls loose active
-        (first key.one) key.s (λ k. unit) (stands, key.holds) (opened active are) (within active are) besides
+    -- ---- the whole judgement
 
-    abbrev Run : (ℕ → Bool) → List Parameter → List Meaning → Meaning → Type 0
-    Run active ps kinds result =
-        RunsAll (types_of program) owner (view_under program noted key.body.place ps given) (ways program noted) result
-        loose active (function.first + length function.parameters) (scope_of function) key.body.block
-        (with_types function.first kinds (λ k. unit))
+    besides : BesidesAll (view_of program noted key.body given) loose may_hold (function.first + length function.parameters)
+        good.0.body.scope (scope_of function) key.body.block
+    besides =
+        subst (λ (ps : List Parameter). BesidesAll (view_under program noted key.body.place ps given) loose may_hold
+        (function.first + length function.parameters) good.0.body.scope (scope_of function) key.body.block) (sym alike)
+        (bodies_asked function may_hold outside key.body.generics key.body.header good.0 good.1 covers)
 
-    runs : (active : ℕ → Bool) → AreActive active key.tokens
-        → Run active (written_params key.body.generics) ((ways program noted).parameters key)
-        ((ways program noted).result key)
-    runs active are =
-        let its = runs_at active are in
-        subst (λ ps. Run active ps ((ways program noted).parameters key) ((ways program noted).result key)) alike
-        (subst (λ kinds. Run active (parameters generics) kinds ((ways program noted).result key))
-        (kinds_alike labels its.ofs its.takes)
-        (subst (λ of. Run active (parameters generics) (kinds_given key.s its.ofs) of)
-        (runs_so key.body.header.result its.result its.gives) its.runs))
+    module _ (calls : CallsRunHere program noted key.body.place generics given owner (ways program noted)) where
+      runs_at : (active : ℕ → Bool) → AreActive active key.tokens
+          → BodyRuns program noted key.body given owner (ways program noted) permits key loose active (first key.one) key.s
+          (λ k. unit)
+      runs_at active are =
+          body_runs program noted key.body given owner (ways program noted) permits key checked good.0.body
+          (constants_of_programs_stand program noted checked key.body.place generics given) calls
+          (λ kind. covers.integers kind key.s (stands, key.holds)) loose active
+          (first key.one) key.s (λ k. unit) (stands, key.holds) (opened active are) (within active are) besides
 
-    may_run : MayRun (types_of program) owner (ways program noted) function key
-    may_run =
-        let its = runs_at (λ k. true) (all_active key.tokens) in record {
-          many = length-map (map (field_under (types_at program key.body.place Body) (heads_of program)
-              (written_params key.body.generics) given) labels) field_seen
-              ∙ (length-map labels (field_under (types_at program key.body.place Body) (heads_of program)
-              (written_params key.body.generics) given)
-              ∙ sym (length-map labels (λ (p : Labelled Bytes). written_running program key.body key.s p.of)));
-          names = λ k. unit;
-          loose = loose;
-          fine = subst (Fine ((ways program noted).result key) (first key.one)) (kinds_alike labels its.ofs its.takes)
-              (fine ((ways program noted).result key) (first key.one) labels its.ofs its.takes
-              (parameters_drop function outside key.body.generics key.body.header));
-          runs = runs;
-          ahead = (bodies_ahead function outside key.body.generics key.body.header good.0).1;
-        }
+      abbrev Run : (ℕ → Bool) → List Parameter → List Meaning → Meaning → Type 0
+      Run active ps kinds result =
+          RunsAll (types_of program) owner (view_under program noted key.body.place ps given) (ways program noted) result
+          loose permits key active (function.first + length function.parameters) (scope_of function) key.body.block
+          (with_types function.first kinds (λ k. unit))
+
+      runs : (active : ℕ → Bool) → AreActive active key.tokens
+          → Run active (written_params key.body.generics) ((ways program noted).parameters key)
+          ((ways program noted).result key)
+      runs active are =
+          let its = runs_at active are in
+          subst (λ ps. Run active ps ((ways program noted).parameters key) ((ways program noted).result key)) alike
+          (subst (λ kinds. Run active (parameters generics) kinds ((ways program noted).result key))
+          (kinds_alike labels its.ofs its.takes)
+          (subst (λ of. Run active (parameters generics) (kinds_given key.s its.ofs) of)
+          (runs_so key.body.header.result its.result its.gives) its.runs))
+
+      may_run : MayRun (types_of program) owner permits (ways program noted) function key
+      may_run =
+          let its = runs_at (λ k. true) (all_active key.tokens) in record {
+            many = length-map (map (field_under (types_at program key.body.place Body) (heads_of program)
+                (written_params key.body.generics) given) labels) field_seen
+                ∙ (length-map labels (field_under (types_at program key.body.place Body) (heads_of program)
+                (written_params key.body.generics) given)
+                ∙ sym (length-map labels (λ (p : Labelled Bytes). written_running program key.body key.s p.of)));
+            names = λ k. unit;
+            loose = loose;
+            fine = subst (Fine (first key.one)) (kinds_alike labels its.ofs its.takes)
+                (fine (first key.one) labels its.ofs (λ p there. there) its.takes
+                (parameters_drop function outside key.body.generics key.body.header));
+            runs = runs;
+            ahead = (bodies_ahead function outside key.body.generics key.body.header good.0).1;
+          }
 
 pub programs_judged : (program : List ModuleParts) (noted : List NotedParts) (owner : ClosedType → Option (List ℕ))
-    → CheckedProgramsAreJudged program noted owner
-programs_judged program noted owner checked calls first key = (
+    {W : Type 0} (permits : Permits (Key program noted) W) → CheckedProgramsAreJudged program noted owner permits
+programs_judged program noted owner permits checked calls covered first key = (
   function program noted owner checked first key,
   there program noted owner checked first key,
-  may_run program noted owner checked first key (calls key),
+  may_run program noted owner checked first key permits (covered key) (calls key),
 )

@@ -9,7 +9,8 @@ use Rattle.au_syntax.specs.Modules.{Constrained, Header}
 use Rattle.au_syntax.specs.Plain.{Bytes}
 use Rattle.au_syntax.specs.Types.{Labelled, WrittenType}
 use Rattle.au_types.specs.Meant.{meant}
-use Rattle.au_types.specs.Types.{Meaning}
+use Rattle.au_base.specs.declared.kinds.IntKind.{IntKind}
+use Rattle.au_types.specs.Types.{Meaning, integer}
 use Rattle.au_matching.specs.Bindings.{Bindings, value_of}
 use Rattle.au_matching.specs.Substituted.{region_for}
 use Rattle.au_judged_types.specs.Bounds.{parameters}
@@ -39,6 +40,8 @@ use Rattle.au_judged_bodies.specs.Tables.{types_of}
 use Rattle.au_known_programs.proofs.OutsideLemmas.{meant_parameters, outside_known}
 use Rattle.au_running_types.specs.Running.{running}
 use Rattle.au_judged_bodies.specs.Blocks.{with_types}
+use Rattle.au_judged_bodies.specs.Held.{IsPermitted, Permits}
+use Rattle.au_judged_bodies.specs.Covering.{MayHold}
 use Rattle.au_judged_bodies.specs.Known.{Callables, InScope}
 use Rattle.au_judged_bodies.specs.Besides.{BesidesAll}
 use Rattle.au_judged_bodies.specs.Frames.{TypesAreUsable}
@@ -144,20 +147,23 @@ module _ (program : List ModuleParts) (place : ℕ) (generics : List (Constraine
   given_alike (p ∷ rest) [] are = absurd are
 
 module _ (program : List ModuleParts) (noted : List NotedParts) (body : BodyOf) (given : Given)
-    (owner : ClosedType → Option (List ℕ)) {K : Type 0} (known : Callables Instance K) where
+    (owner : ClosedType → Option (List ℕ)) {K : Type 0} (known : Callables Instance K) {V W : Type 0}
+    (permits : Permits V W) (key : V) where
   pub body_runs : IsChecked program noted
       → (good : GoodBody (outside_of program body.place Body) body.generics body.header body.block)
       → ConstantsStand program noted body.place (generics_of program noted body given) given
       → CallsRunHere program noted body.place (generics_of program noted body given) given owner known
+      → ((kind : IntKind) → IsPermitted permits key (integer kind))
       → (loose active : ℕ → Bool) (first : ℕ) (s : Bindings) (names : ℕ → Meaning)
       → AreGoodHere program noted body.place (generics_of program noted body given) given s
       → ((name : List ℕ) → IsRegionName [] (parameters (generics_of program noted body given)) name
       → InScope active (region_for (value_of name s) name))
       → TypesAreUsable active (parameters (generics_of program noted body given)) s
-      → BesidesAll (view_of program noted body given) loose (first + length (parameters_under program noted given body))
+      → BesidesAll (view_of program noted body given) loose
+      (MayHold permits key (AreGoodHere program noted body.place (generics_of program noted body given) given)) (first + length (parameters_under program noted given body))
       good.scope (meaning.with_parameters first (parameters_under program noted given body) []) body.block
-      → BodyRuns program noted body given owner known loose active first s names
-  body_runs checked good constants calls loose active first s names stands regions within besides = record {
+      → BodyRuns program noted body given owner known permits key loose active first s names
+  body_runs checked good constants calls counts loose active first s names stands regions within besides = record {
     ofs = begun.ofs;
     result = good.scope.result;
     takes = begun.are;
@@ -165,7 +171,7 @@ module _ (program : List ModuleParts) (noted : List NotedParts) (body : BodyOf) 
     many = ap length alike ∙ counted;
     runs = all_run (types_of program) owner (view_of program noted body given) known given
         (AreGoodHere program noted body.place (generics_of program noted body given) given) loose
-        (running s 0 good.scope.result) body.block active
+        (running s 0 good.scope.result) permits key counts body.block active
         (first + length (parameters_under program noted given body)) good.scope
         (meaning.with_parameters first (parameters_under program noted given body) []) s
         (with_types first (kinds_given s begun.ofs) names) place good.good besides;

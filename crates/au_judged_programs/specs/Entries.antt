@@ -17,11 +17,13 @@ use Rattle.au_closing_laws.specs.Accepted.{AreAcceptedAs}
 use Rattle.au_closing_laws.specs.Programs.{program_modules}
 use Rattle.au_closing_laws.specs.Trees.{ReadFile}
 use Rattle.au_judged_programs.specs.CheckedChecked.{IsChecked}
-use Rattle.au_judged_programs.specs.Judged.{CallsRunInBodies}
+use Rattle.au_judged_programs.specs.Judged.{AreCovered, CallsRunInBodies}
+use Rattle.au_judged_bodies.specs.Held.{Permits}
 use Rattle.au_judged_bodies.specs.Keys.{Key}
+use Rattle.au_judged_bodies.specs.Tables.{types_of}
 use Rattle.au_judged_programs.specs.RunningBodiesBodies.{generics_of}
 use Rattle.au_judged_programs.specs.Programs.{OthersAreSeen}
-use Rattle.au_sound.specs.Runs.{IsSeenWell}
+use Rattle.au_sound.specs.Runs.{HoldsWhereCut, IsSeenWell}
 
 -- A function has the form of an entry: its body is there and has no type parameters, it takes nothing or the
 -- root, and gives `ExitCode`.
@@ -60,6 +62,16 @@ AllRunsAreSeenWell program noted =
 -- So it is in a checked program.
 abbrev pub EntriesRunWell : List ModuleParts → List NotedParts → Type 0
 EntriesRunWell program noted = IsChecked program noted → AllRunsAreSeenWell program noted
+
+-- Names hold what is permitted wherever such a run of a checked program is cut off, where this covers the
+-- bodies of functions.
+abbrev pub EntriesHoldWell : (program : List ModuleParts) (noted : List NotedParts) {W : Type 0}
+    → Permits (Key program noted) W → Type 0
+EntriesHoldWell program noted permits =
+    IsChecked program noted → AreCovered program noted permits → (target : Target)
+    → IsEntryHere program noted target → (first : Instance → ℕ) (input : List ℕ) (ticks : ℕ)
+    → HoldsWhereCut (types_of program) (owner_of program) permits
+    (mean (generic_functions program noted first) (record { of = target; given = [] }) input ticks)
 
 -- So it is in an accepted program.
 abbrev pub AcceptedEntriesRunWell : Type 0

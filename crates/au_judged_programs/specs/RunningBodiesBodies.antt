@@ -1,7 +1,8 @@
 -- The bodies of a checked program run, by the rules of typing, at running types.
 use Rattle.std.specs.Prelude.{◌≡◌, ℕ, ◌+◌, Bool, List, [], length, Option, Ok}
 use Rattle.au_syntax.specs.declared.modules.Part.TheVariants.{Body}
-use Rattle.au_types.specs.Types.{Meaning}
+use Rattle.au_base.specs.declared.kinds.IntKind.{IntKind}
+use Rattle.au_types.specs.Types.{Meaning, integer}
 use Rattle.au_matching.specs.Bindings.{Bindings, value_of}
 use Rattle.au_matching.specs.Substituted.{region_for}
 use Rattle.au_judged_types.specs.Bounds.{Bounded, parameters}
@@ -22,10 +23,12 @@ use Rattle.au_meaning.specs.Views.{View}
 use Rattle.au_judged_bodies.specs.Generic.{parameters_under, view_under}
 use Rattle.au_judged_bodies.specs.Tables.{types_of}
 use Rattle.au_judged_bodies.specs.Blocks.{RunsAll, with_types}
+use Rattle.au_judged_bodies.specs.Held.{IsPermitted, Permits}
 use Rattle.au_judged_bodies.specs.Known.{Callables, InScope}
 use Rattle.au_judged_bodies.specs.Frames.{TypesAreUsable}
 use Rattle.au_judged_bodies.specs.Begun.{AreMeant, kinds_given}
 use Rattle.au_judged_bodies.specs.Besides.{BesidesAll}
+use Rattle.au_judged_bodies.specs.Covering.{MayHold}
 use Rattle.au_judged_programs.specs.RoundProgramsBodies.{AreGoodHere, CallsRunHere, ConstantsStand}
 use Rattle.au_judged_programs.specs.CheckedChecked.{IsChecked}
 
@@ -40,7 +43,7 @@ module _ (program : List ModuleParts) (noted : List NotedParts) (body : BodyOf) 
   -- A body runs, with its parameters as the first names of its frame, at the running types of what is written
   -- for them and for its result.
   pub record BodyRuns (owner : ClosedType → Option (List ℕ)) {K : Type 0} (known : Callables Instance K)
-      (loose : ℕ → Bool) (active : ℕ → Bool) (first : ℕ) (s : Bindings) (names : ℕ → Meaning) : Type 0 where
+      {V W : Type 0} (permits : Permits V W) (key : V) (loose : ℕ → Bool) (active : ℕ → Bool) (first : ℕ) (s : Bindings) (names : ℕ → Meaning) : Type 0 where
     pub ofs : List Meaning
     pub result : Meaning
     pub takes : AreMeant
@@ -48,26 +51,28 @@ module _ (program : List ModuleParts) (noted : List NotedParts) (body : BodyOf) 
     pub gives : written_type
         (outer_scope (outside_of program body.place Body) generics_of) body.header.result ≡ Ok result
     pub many : length (parameters_under program noted given body) ≡ length ofs
-    pub runs : RunsAll (types_of program) owner view_of known (running s 0 result) loose active
+    pub runs : RunsAll (types_of program) owner view_of known (running s 0 result) loose permits key active
         (first + length (parameters_under program noted given body))
         (meaning.with_parameters first (parameters_under program noted given body) []) body.block
         (with_types first (kinds_given s ofs) names)
 
   -- A body that is good by the rules of typing runs in a frame where what stands for its type parameters is
-  -- good and its regions may be used, where constants stand and calls run, and where it is what it is asked
-  -- besides.
+  -- good and its regions may be used, where constants stand and calls run, where integers are permitted, and
+  -- where it is what it is asked besides.
   abbrev pub BodiesOfProgramsRun : (ClosedType → Option (List ℕ)) → {K : Type 0} → Callables Instance K
-      → Type 0
-  BodiesOfProgramsRun owner known =
+      → {V W : Type 0} → Permits V W → V → Type 0
+  BodiesOfProgramsRun owner known permits key =
       IsChecked program noted
       → (good : GoodBody (outside_of program body.place Body) body.generics body.header body.block)
       → ConstantsStand program noted body.place generics_of given
       → CallsRunHere program noted body.place generics_of given owner known
+      → ((kind : IntKind) → IsPermitted permits key (integer kind))
       → (loose active : ℕ → Bool) (first : ℕ) (s : Bindings) (names : ℕ → Meaning)
       → AreGoodHere program noted body.place generics_of given s
       → ((name : List ℕ) → IsRegionName [] (parameters generics_of) name
       → InScope active (region_for (value_of name s) name))
       → TypesAreUsable active (parameters generics_of) s
-      → BesidesAll view_of loose (first + length (parameters_under program noted given body)) good.scope
+      → BesidesAll view_of loose (MayHold permits key (AreGoodHere program noted body.place generics_of given))
+      (first + length (parameters_under program noted given body)) good.scope
       (meaning.with_parameters first (parameters_under program noted given body) []) body.block
-      → BodyRuns owner known loose active first s names
+      → BodyRuns owner known permits key loose active first s names

@@ -1,3 +1,4 @@
+pub use Rattle.au_running_judgements.specs.Held
 pub use Rattle.au_running_judgements.specs.Blocks
 pub use Rattle.au_running_judgements.specs.Expressions
 pub use Rattle.au_running_judgements.specs.Known

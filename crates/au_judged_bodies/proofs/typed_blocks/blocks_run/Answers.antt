@@ -3,6 +3,8 @@ use Rattle.au_judged_bodies.proofs.BlockLemmas.{all_run}
 use Rattle.au_judged_bodies.proofs.typed_blocks.blocks_run.Goals as goal
 
 pub returns : goal.returns
-returns g c = λ types owner see known heads params given loose result block active number sc scope s names p good besides.
-    all_run types owner see known given (StandsFor heads params given) loose result block active number sc scope s names p
-    good besides
+returns g c =
+    λ types owner see known heads params given permits key loose result block active number sc scope s names p counts good
+    besides.
+    all_run types owner see known given (StandsFor heads params given) loose result permits key counts block active number
+    sc scope s names p good besides

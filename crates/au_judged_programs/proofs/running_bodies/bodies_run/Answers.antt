@@ -2,7 +2,8 @@ use Rattle.au_judged_programs.proofs.RunningBodiesBodyLemmas.{body_runs}
 use Rattle.au_judged_programs.proofs.running_bodies.bodies_run.Goals as goal
 
 pub returns : goal.returns
-returns g c = λ program noted body given owner known checked good constants calls loose active first s names stands regions
-    within besides.
-    body_runs program noted body given owner known checked good constants calls loose active first s names stands regions
-    within besides
+returns g c =
+    λ program noted body given owner known permits key checked good constants calls counts loose active first s names
+    stands regions within besides.
+    body_runs program noted body given owner known permits key checked good constants calls counts loose active first s
+    names stands regions within besides
