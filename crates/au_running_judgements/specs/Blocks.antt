@@ -210,16 +210,16 @@ module _ (types : Types) (owner : ClosedType → Option (List ℕ)) {I T C K : T
 -- besides those of the key, and returns on each way. Its names hold what they may at the key.
 pub record MayRun (types : Types) (owner : ClosedType → Option (List ℕ)) {K W : Type 0}
     (permits : Permits K W) {I T C : Type 0} (known : Callables I K) (f : Function I T C) (key : K) : Type 0
-    where
-  pub many : length f.parameters ≡ length (known.parameters key)
-  pub names : Names
-  pub loose : ℕ → Bool
-  pub fine : AreFine types loose permits key f.first (known.parameters key)
-  pub runs : (active : ℕ → Bool) → AreActive active (known.tokens key)
-      → RunsAll types owner f.view known (known.result key) loose permits key active
-      (f.first + length f.parameters) (scope_of f) f.body (with_types f.first (known.parameters key) names)
-  pub ahead : AheadAll f.view loose (f.first + length f.parameters) (scope_of f) [] f.body (λ h. ⊥)
-      (put_each f.first (length f.parameters) ready (λ k. empty))
+  where
+    pub many : length f.parameters ≡ length (known.parameters key)
+    pub names : Names
+    pub loose : ℕ → Bool
+    pub fine : AreFine types loose permits key f.first (known.parameters key)
+    pub runs : (active : ℕ → Bool) → AreActive active (known.tokens key)
+        → RunsAll types owner f.view known (known.result key) loose permits key active
+        (f.first + length f.parameters) (scope_of f) f.body (with_types f.first (known.parameters key) names)
+    pub ahead : AheadAll f.view loose (f.first + length f.parameters) (scope_of f) [] f.body (λ h. ⊥)
+        (put_each f.first (length f.parameters) ready (λ k. empty))
 
 -- Each function that may be called is there, and may be run.
 abbrev pub AllRun : (types : Types) → (ClosedType → Option (List ℕ)) → {K W : Type 0} → Permits K W

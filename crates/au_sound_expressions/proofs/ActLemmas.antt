@@ -73,7 +73,7 @@ module _ (types : Types) (owner : ClosedType → Option (List ℕ)) {V W : Type 
       (inl (named ∙ (writer ∙ ap (writes of) static))) state)
   behind_good h x path one of t region under w ticks (inl writer) (inr scoped) named is leads free state =
       good_uncut owner _ (λ (v : Value) n. Ins h ((v, t) ∷ under) n) (follows (refers x path w ticks) meaning.reads)
-          (laws.writers_read (a ∷ older) (frame h names) fs sizes size under w ticks laws.typed
+      (laws.writers_read (a ∷ older) (frame h names) fs sizes size under w ticks laws.typed
       running x path of t scoped.0 is
       (named ∙ (writer ∙ ap (writes of) scoped.1)) scoped.2 leads free state)
   behind_good h x path one of t region under w ticks (inr reader) (inl static) named is leads free state =
@@ -81,7 +81,7 @@ module _ (types : Types) (owner : ClosedType → Option (List ℕ)) {V W : Type 
       (inr (named ∙ (reader.0 ∙ ap (reads of) static))) state)
   behind_good h x path one of t region under w ticks (inr reader) (inr scoped) named is leads free state =
       good_uncut owner _ (λ (v : Value) n. Ins h ((v, t) ∷ under) n) (follows (refers x path w ticks) meaning.reads)
-          (laws.readers_read (a ∷ older) (frame h names) fs sizes size under w ticks laws.typed
+      (laws.readers_read (a ∷ older) (frame h names) fs sizes size under w ticks laws.typed
       running x path of t scoped.0 is
       (named ∙ (reader.0 ∙ ap (reads of) scoped.1))
       (subst (λ r. types.is_free (reads of r) ≡ true) scoped.1 reader.1) scoped.2 leads free state)
@@ -149,7 +149,7 @@ module _ (types : Types) (owner : ClosedType → Option (List ℕ)) {V W : Type 
       (inl (subst (λ (s : Meaning). Ins h ((r, s) ∷ under) w) (writer ∙ ap (writes t) static) state)))
   deref_value h r one t region under w ticks (inl writer) (inr scoped) free state =
       good_uncut owner _ (λ (v : Value) n. Ins h ((v, t) ∷ under) n) (needing (reference_in r) meaning.reads w ticks)
-          (laws.writers_copied (a ∷ older) (frame h names ∷ fs) sizes under w ticks r t scoped.0
+      (laws.writers_copied (a ∷ older) (frame h names ∷ fs) sizes under w ticks r t scoped.0
       free scoped.2
       (subst (λ (s : Meaning). Ins h ((r, s) ∷ under) w) (writer ∙ ap (writes t) scoped.1) state))
   deref_value h r one t region under w ticks (inr reader) (inl static) free state =
@@ -157,7 +157,7 @@ module _ (types : Types) (owner : ClosedType → Option (List ℕ)) {V W : Type 
       (inr (subst (λ (s : Meaning). Ins h ((r, s) ∷ under) w) (reader.0 ∙ ap (reads t) static) state)))
   deref_value h r one t region under w ticks (inr reader) (inr scoped) free state =
       good_uncut owner _ (λ (v : Value) n. Ins h ((v, t) ∷ under) n) (needing (reference_in r) meaning.reads w ticks)
-          (laws.copied (a ∷ older) (frame h names ∷ fs) sizes under w ticks laws.typed r t
+      (laws.copied (a ∷ older) (frame h names ∷ fs) sizes under w ticks laws.typed r t
       scoped.0 free scoped.2
       (subst (λ (s : Meaning). Ins h ((r, s) ∷ under) w) (reader.0 ∙ ap (reads t) scoped.1) state))
 
@@ -214,7 +214,7 @@ module _ (types : Types) (owner : ClosedType → Option (List ℕ)) {V W : Type 
         (reaches see (Some x) fields >>= meaning.reads) h
         under w ticks waits state (λ left.
         subst (λ (p : Option (List ℕ)). GoodHeld types owner permits q
-            (follows (needing p (refers x.number) w left) meaning.reads))
+        (follows (needing p (refers x.number) w left) meaning.reads))
         (sym to.2)
         (good_stays types owner permits laws a older names fs sizes size running below
         (λ k. where_of k (Some x) one_look) rest h t under
@@ -322,8 +322,8 @@ module _ (types : Types) (owner : ClosedType → Option (List ℕ)) {V W : Type 
             (subst IsReadable (sym is) tt) (inl (fits.2 ∙ ap (writes fits.0) static)) state)
         by (inr scoped) left is =
             good_uncut owner _ (λ (v : Value) n. Ins (λ k. if x.number == k then shut a.token else h k)
-                ((v, writes fits.0 (token a.token)) ∷ under) n) (lends mode.Reborrow x.number w left)
-                (laws.relent (a ∷ older) (frame h names) fs sizes size under w left
+            ((v, writes fits.0 (token a.token)) ∷ under) n) (lends mode.Reborrow x.number w left)
+            (laws.relent (a ∷ older) (frame h names) fs sizes size under w left
             (laws.typed).forms running a older refl
             x.number fits.0 scoped.0 is (fits.2 ∙ ap (writes fits.0) scoped.1) scoped.2 state)
 
@@ -371,14 +371,14 @@ module _ (types : Types) (owner : ClosedType → Option (List ℕ)) {V W : Type 
           (makes_value linear of tag home (values_of made) w ticks)
       made_good of tag home true t fields bears =
           good_uncut owner (IsCutSo types owner permits) (λ (v : Value) n. Ins h ((v, t) ∷ under) n)
-              (makes_value true of tag home (values_of made) w ticks)
-              (laws.made_linear (a ∷ older) (frame h names ∷ fs) sizes under w ticks made t of tag
+          (makes_value true of tag home (values_of made) w ticks)
+          (laws.made_linear (a ∷ older) (frame h names ∷ fs) sizes under w ticks made t of tag
           home fields bears.0 bears.1
           state)
       made_good of tag home false t fields bears =
           good_uncut owner (IsCutSo types owner permits) (λ (v : Value) n. Ins h ((v, t) ∷ under) n)
-              (makes_value false of tag home (values_of made) w ticks)
-              (laws.made_free (a ∷ older) (frame h names ∷ fs) sizes under w ticks made t of tag
+          (makes_value false of tag home (values_of made) w ticks)
+          (laws.made_free (a ∷ older) (frame h names ∷ fs) sizes under w ticks made t of tag
           home fields bears state)
 
       pub performs_good : (act : views.Act I) (t : Meaning)
@@ -395,15 +395,15 @@ module _ (types : Types) (owner : ClosedType → Option (List ℕ)) {V W : Type 
           (calls_safe fits.0 (a ∷ older) (frame h names ∷ fs) sizes made under w ticks fits.4 (waits, waiting)
           running.count (sym fits.2) state) in
           subst (λ (f : I). GoodHeld types owner permits (λ (v : Value) n. Ins h ((v, t) ∷ under) n)
-              (invoke f (values_of made) w ticks))
+          (invoke f (values_of made) w ticks))
           fits.1
           (subst (λ (u : Meaning). GoodHeld types owner permits (λ (v : Value) n. Ins h ((v, u) ∷ under) n)
           (invoke (known.of fits.0) (values_of made) w ticks)) fits.3 called)
       performs_good (makes of tag home) t fits = made_good of tag home (see.is_linear of) t fits.0 fits.1
       performs_good (ships prim born) t fits =
           good_uncut owner _ (λ (v : Value) n. Ins h ((v, t) ∷ under) n)
-              (ships_call prim born (values_of made) w ticks)
-              (laws.shipped (a ∷ older) (frame h names ∷ fs) sizes under w ticks prim born made t
+          (ships_call prim born (values_of made) w ticks)
+          (laws.shipped (a ∷ older) (frame h names ∷ fs) sizes under w ticks prim born made t
           fits state)
 
       -- a call of what is known, whose arguments are brought so into declared order

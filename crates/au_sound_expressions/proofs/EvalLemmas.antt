@@ -145,7 +145,7 @@ module _ (types : Types) (owner : ClosedType → Option (List ℕ)) {V W : Type 
         ap (λ (b : Bool). if b then Some (values_of all.made) else None)
         (eq-eqb (length (values_of all.made)) (length one.parameters) many) in
         subst (λ (xs : List Value). GoodHeld types owner permits q
-            (tick (calls see invoke o (by_position xs)) n left)) (sym all.are)
+        (tick (calls see invoke o (by_position xs)) n left)) (sym all.are)
         (ticks_well types owner permits laws a older names fs sizes size running below q
         (calls see invoke o (by_position (values_of all.made))) all.after.hold (onto all.made under) n left
         all.after.waits all.after.state
@@ -190,10 +190,10 @@ module _ (types : Types) (owner : ClosedType → Option (List ℕ)) {V W : Type 
         types_under one.parameters names_given all.made brought.0 fits.2 brought.3
         (subst (λ (ks : List Meaning). AreTypesUnder one.parameters names_given ks fits.2) (sym all.have) fits.7) in
         let placed = laws.reordered (a ∷ older) (frame all.after.hold names ∷ fs) sizes under n all.made brought.0
-            brought.2
+        brought.2
         all.after.state in
         subst (λ (xs : List Value). GoodHeld types owner permits q
-            (tick (calls see invoke o (by_labels (labelled names_given xs))) n left))
+        (tick (calls see invoke o (by_labels (labelled names_given xs))) n left))
         (sym all.are)
         (ticks_well types owner permits laws a older names fs sizes size running below q
         (calls see invoke o (by_labels (labelled names_given (values_of all.made)))) all.after.hold

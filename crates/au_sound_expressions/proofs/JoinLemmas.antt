@@ -133,7 +133,7 @@ module _ (types : Types) (owner : ClosedType → Option (List ℕ)) {V W : Type 
       ticks_well types owner permits laws a older names fs sizes size running below q (chosen one two x) first.hold
       ((x, type.truth) ∷ under) n left first.waits first.state (λ more.
       subst (λ (y : Value). GoodHeld types owner permits q (chosen one two y n more)) (sym is.1)
-          (by x n first truth.1 more is.0)))
+      (by x n first truth.1 more is.0)))
     where
       last : (x : Value) (n : World)
           (first : Lefts type.truth h (λ k. (ca k).consumed) (λ k. plus (plus (cb k) (cc k)) (rest k)) under x n)
@@ -142,7 +142,7 @@ module _ (types : Types) (owner : ClosedType → Option (List ℕ)) {V W : Type 
           → Lefts t h (λ k. (ca k).consumed + ((cb k).consumed + (cc k).consumed)) rest under v m
       last x n first ce none v m second =
           let so = both_after types owner permits laws a older names fs sizes size running below h
-              (λ k. (ca k).consumed)
+          (λ k. (ca k).consumed)
           (λ k. (ce k).consumed) (λ k. plus (plus (cb k) (cc k)) (rest k)) rest ((x, type.truth) ∷ under)
           ((v, t) ∷ under) ((v, t) ∷ under) n m m first second second.state in
           record {

@@ -102,14 +102,17 @@ module _ (types : Types) (owner : ClosedType → Option (List ℕ)) {V W : Type 
       (ticks : ℕ) → Stands permits (is_active (a ∷ older)) h names → In h under w
       → ((left : ℕ) → GoodHeld types owner permits q (m w left)) → GoodHeld types owner permits q (tick m w ticks)
   ticks_well q m h under w ticks waits state next =
-      good_tick owner _ q m w ticks (laws.told (a ∷ older) (frame h names ∷ fs) sizes under w state, record {
-        acts = a ∷ older;
-        frames = frame h names ∷ fs;
-        sizes = sizes;
-        under = under;
-        state = state;
-        held = (waits.1, below);
-      }) next
+      good_tick owner _ q m w ticks (
+        laws.told (a ∷ older) (frame h names ∷ fs) sizes under w state,
+        record {
+          acts = a ∷ older;
+          frames = frame h names ∷ fs;
+          sizes = sizes;
+          under = under;
+          state = state;
+          held = (waits.1, below);
+        },
+      ) next
 
   -- one expression, and then another
   pub both_after : (h : Standing) (c d : ℕ → ℕ) (between rest : ℕ → Counts) (made two three : Made) (n m p : World)
@@ -182,7 +185,7 @@ module _ (types : Types) (owner : ClosedType → Option (List ℕ)) {V W : Type 
       look_safe x [] t (fits.0, fits.1 refl) rest h under w ticks met waits state
   copies_safe false x t fits rest h under w ticks met waits state =
       let is = is_ready (h x.number) (ready.consumes (stand (h x.number)) (rest x.number)
-          (met_own x one_consumption h rest met)).0 in
+      (met_own x one_consumption h rest met)).0 in
       let moved = good_uncut owner (IsCutSo types owner permits)
       (λ (v : Value) n. In (λ k. if x.number == k then empty else h k) ((v, names x.number) ∷ under) n)
       (moves x.number w ticks)

@@ -75,7 +75,7 @@ module _ (types : Types) (owner : ClosedType → Option (List ℕ)) {V W : Type 
         let kind = fits.0 in
         let go = λ (x y : Value). operates see (computes op) whole first x y in
         subst (λ (u : Meaning). GoodHeld types owner permits (Lefts u h (λ k. (ca k).consumed + (cb k).consumed) rest
-            under)
+        under)
         (follows (one w ticks) (λ x. two >>= (λ y. tick (operates see (computes op) whole first x y))))) (sym fits.4)
         (two_safe types owner permits laws a older names fs sizes size running below ca cb A B one two safe_one
         safe_two (integer kind)
@@ -90,7 +90,7 @@ module _ (types : Types) (owner : ClosedType → Option (List ℕ)) {V W : Type 
         state)
     joins_safe (compares op) t fits rest h under w ticks met waits state =
         subst (λ (u : Meaning). GoodHeld types owner permits (Lefts u h (λ k. (ca k).consumed + (cb k).consumed) rest
-            under)
+        under)
         (follows (one w ticks) (λ x. two >>= (λ y. tick (operates see (compares op) whole first x y))))) (sym fits.0)
         (by fits.1)
       where
@@ -127,7 +127,7 @@ module _ (types : Types) (owner : ClosedType → Option (List ℕ)) {V W : Type 
         let c = λ (k : ℕ). (ca k).consumed + ((cb k).consumed + 0) in
         let d = λ (k : ℕ). (ca k).consumed + (cb k).consumed in
         subst (λ (u : Meaning). GoodHeld types owner permits (Lefts u h (λ k. (ca k).consumed + (cb k).consumed) rest
-            under)
+        under)
         (follows (one w ticks) (λ x. tick (chosen two (pure (values.truth false)) x)))) (sym fits.0)
         (good_so owner _ (Lefts type.truth h c rest under) (Lefts type.truth h d rest under)
         (follows (one w ticks) (λ x. tick (chosen two (pure (values.truth false)) x)))
@@ -142,7 +142,7 @@ module _ (types : Types) (owner : ClosedType → Option (List ℕ)) {V W : Type 
         let c = λ (k : ℕ). (ca k).consumed + (0 + (cb k).consumed) in
         let d = λ (k : ℕ). (ca k).consumed + (cb k).consumed in
         subst (λ (u : Meaning). GoodHeld types owner permits (Lefts u h (λ k. (ca k).consumed + (cb k).consumed) rest
-            under)
+        under)
         (follows (one w ticks) (λ x. tick (chosen (pure (values.truth true)) two x)))) (sym fits.0)
         (good_so owner _ (Lefts type.truth h c rest under) (Lefts type.truth h d rest under)
         (follows (one w ticks) (λ x. tick (chosen (pure (values.truth true)) two x)))
