@@ -1,6 +1,6 @@
 -- What names may hold while a program runs, as far as their types tell: in each world in which a run may be
 -- cut off, the names of each frame that hold something are of types that are permitted there.
-use Rattle.std.specs.Prelude.{◌≡◌, ◌⊎◌, ℕ, List, [], ◌∷◌, Option}
+use Rattle.std.specs.Prelude.{◌≡◌, ◌⊎◌, ℕ, List, [], ◌∷◌, ◌++◌, Option}
 use Rattle.au_types.specs.Types.{Meaning}
 use Rattle.au_type_texts.specs.Types.{ClosedType}
 use Rattle.au_memory.specs.Forests.{Hold, Made, empty}
@@ -25,24 +25,25 @@ module _ {V W : Type 0} (permits : Permits V W) where
   abbrev pub ArePermitted : V → (ℕ → Hold) → (ℕ → Meaning) → Type 0
   ArePermitted key hold names = (k : ℕ) → (hold k ≡ empty) ⊎ IsPermitted key (names k)
 
-  -- So is it in a frame, for some way.
-  abbrev pub IsHeld : Frame → Type 0
-  IsHeld f = (key : V) × ArePermitted key f.hold f.type
+  -- So is it in frames, the newest first, of functions that were called in these ways.
+  abbrev pub AllHeld : List V → List Frame → Type 0
+  AllHeld [] [] = Unit {0}
+  AllHeld (way ∷ ways) (f ∷ fs) = ArePermitted way f.hold f.type × AllHeld ways fs
+  AllHeld ways fs = ⊥
 
-  -- So is it in frames.
-  abbrev pub AllHeld : List Frame → Type 0
-  AllHeld [] = Unit {0}
-  AllHeld (f ∷ fs) = IsHeld f × AllHeld fs
-
-module _ (types : Types) (owner : ClosedType → Option (List ℕ)) {V W : Type 0} (permits : Permits V W) where
-  -- The store of a world is as it should be, for some types of the names of its frames, which are permitted.
+module _ (types : Types) (owner : ClosedType → Option (List ℕ)) {V W : Type 0} (permits : Permits V W)
+    (ways : List V) where
+  -- The store of a world is as it should be, for some types of the names of its frames, and what they hold is
+  -- permitted in the ways in which the functions of the frames were called. The oldest frames are those of
+  -- functions that were called in these ways.
   pub record HoldsWell (w : World) : Type 0 where
+    pub newer : List V
     pub acts : List Act
     pub frames : List Frame
     pub sizes : List ℕ
     pub under : Made
     pub state : IsIn types owner acts frames sizes under w
-    pub held : AllHeld permits frames
+    pub held : AllHeld permits (newer ++ ways) frames
 
   -- A world is so where its run is cut off, and else as it should be there.
   abbrev pub IsCutSo : World → Type 0

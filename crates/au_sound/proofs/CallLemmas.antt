@@ -36,10 +36,10 @@ use Rattle.au_sound_blocks.proofs.FrameLemmas.{each_after, each_way}
 use Rattle.au_sound_blocks.proofs.LoopLemmas.{good_does}
 use Rattle.au_sound_blocks.proofs.RunLemmas.{all_safe}
 use Rattle.au_sound_blocks.proofs.StateLemmas.{Ends, loose_is}
-use Rattle.au_sound.specs.Runs.{RunsAreSafe}
+use Rattle.au_sound.specs.Runs.{CallsHold, RunsAreSafe}
 use Rattle.au_sound.proofs.CloseLemmas.{all_ended}
 use Rattle.au_sound.proofs.FrameLemmas.{held_each, last_size, length_more, length_names, typed_each}
-use Rattle.au_sound_blocks.specs.Held.{GoodHeld, Permits}
+use Rattle.au_sound_blocks.specs.Held.{AllHeld, GoodHeld, IsCutSo, Permits}
 
 -- names that are over when tokens have ended wait for none
 waits_over : (active : ℕ → Bool) (b : Bool) (h : Hold) → IsOver b h → Waits active h
@@ -52,11 +52,13 @@ freed_none [] h is = is
 freed_none (z ∷ zs) h is = freed_none zs (freed z h) (ap (freed z) is)
 
 module _ (types : Types) (owner : ClosedType → Option (List ℕ)) {K W : Type 0} (permits : Permits K W)
-    (laws : RunsAreSafe types owner) {I T C E : Type 0}
+    (ways : List K) (laws : RunsAreSafe types owner) {I T C E : Type 0}
     (known : Callables I K) (calls : Calls K E) (invoke : I → List Value → Action Value) (key : K)
-    (calls_safe : CallsSafe types owner permits (callees known calls key) invoke) (depth : ℕ) (f : Function I T C)
-    (may : MayRun types owner permits known calls f key) (acts : List Act) (fs : List Frame) (sizes : List ℕ) (made under : Made)
-    (active : AreActive (is_active acts) (known.tokens key)) (waiting : AllWait permits (is_active acts) fs)
+    (calls_safe : CallsSafe types owner permits (key ∷ ways) (callees known calls key) invoke) (depth : ℕ)
+    (f : Function I T C)
+    (may : MayRun types owner permits known calls f key) (acts : List Act) (fs : List Frame) (sizes : List ℕ)
+    (made under : Made)
+    (active : AreActive (is_active acts) (known.tokens key)) (waiting : AllWait permits ways (is_active acts) fs)
     (many : length sizes ≡ length fs) (typed : types_made made ≡ known.parameters key) where
   abbrev args : List Value
   args = values_of made
@@ -106,8 +108,10 @@ module _ (types : Types) (owner : ClosedType → Option (List ℕ)) {K W : Type 
     fine = subst (λ (c : ℕ). (k : ℕ) → (put_each f.first c forest.ready (λ j. empty) k ≡ empty)
         ⊎ IsFine types may.loose permits key k (names k))
         (sym may.many)
-        (fine_each types owner permits laws.steps key may.loose (known.result key) acts (lying_in w) fs more_sizes size running f.view
-        (callees known calls key) invoke calls_safe waiting f.first (known.parameters key) (λ k. empty) may.names may.fine
+        (fine_each types owner permits ways laws.steps key may.loose (known.result key) acts (lying_in w) fs
+        more_sizes size running f.view
+        (callees known calls key) invoke calls_safe waiting f.first (known.parameters key) (λ k. empty) may.names
+        may.fine
         (λ k. inl refl));
     bottom = refl;
     state = laws.steps.renamed acts fs more_sizes under w hold (frame_of f.first made).type names given
@@ -136,39 +140,47 @@ module _ (types : Types) (owner : ClosedType → Option (List ℕ)) {K W : Type 
       Returned types owner permits key may.loose (known.result key) acts (lying_in w) fs more_sizes size under v n
 
   body_good : (w : World) (ticks : ℕ) → IsIn types owner acts (frame_of f.first made ∷ fs) more_sizes under w
-      → GoodHeld types owner permits (Done w)
+      → GoodHeld types owner permits (key ∷ ways) (Done w)
       ((run_block f.view invoke depth (f.first + length f.parameters) (scope_of f) f.body >>= returned) w ticks)
   body_good w ticks state =
-      let q = Ends types owner permits laws.steps key may.loose (known.result key) acts (lying_in w) fs more_sizes size running []
-      (f.first + length f.parameters) (f.first + length f.parameters) names (λ h. ⊥) (λ ns. Unit {0}) under in
+      let q = Ends types owner permits ways laws.steps key may.loose (known.result key) acts (lying_in w) fs
+      more_sizes size
+      running [] (f.first + length f.parameters) (f.first + length f.parameters) names (λ h. ⊥) (λ ns. Unit {0}) under
+      in
       good_then owner _ q (Done w)
       (run_block f.view invoke depth (f.first + length f.parameters) (scope_of f) f.body w ticks) returned
       (good_then owner _
-      (Ends types owner permits laws.steps key may.loose (known.result key) acts (lying_in w) fs more_sizes size running []
-      (f.first + length f.parameters) ((f.first + length f.parameters) + names_in_block f.body) names (λ h. ⊥)
+      (Ends types owner permits ways laws.steps key may.loose (known.result key) acts (lying_in w) fs more_sizes size
+      running
+      [] (f.first + length f.parameters) ((f.first + length f.parameters) + names_in_block f.body) names (λ h. ⊥)
       (λ ns. Unit {0}) under) q
       (run_all f.view invoke depth (f.first + length f.parameters) (scope_of f) f.body w ticks)
       (and_then (empties (f.first + length f.parameters) (names_in_block f.body)))
-      (all_safe types owner permits laws.steps key may.loose (known.result key) acts (lying_in w) fs more_sizes size running f.view
-      (callees known calls key) invoke calls_safe waiting depth f.body (f.first + length f.parameters) (scope_of f) [] (λ h. ⊥) hold names under w
+      (all_safe types owner permits ways laws.steps key may.loose (known.result key) acts (lying_in w) fs more_sizes
+      size running f.view
+      (callees known calls key) invoke calls_safe waiting depth f.body (f.first + length f.parameters) (scope_of f)
+      [] (λ h. ⊥) hold names under w
       ticks may.ahead (may.runs (is_active acts) active) (omega arith) (began w state)) ends)
       gave
     where
       ends : (flow : Flow) (n : World) (left : ℕ)
-          → Ends types owner permits laws.steps key may.loose (known.result key) acts (lying_in w) fs more_sizes size running []
+          → Ends types owner permits ways laws.steps key may.loose (known.result key) acts
+          (lying_in w) fs more_sizes size running []
           (f.first + length f.parameters) ((f.first + length f.parameters) + names_in_block f.body) names (λ h. ⊥)
           (λ ns. Unit {0}) under flow n
-          → GoodHeld types owner permits
-          (Ends types owner permits laws.steps key may.loose (known.result key) acts (lying_in w) fs more_sizes size running []
-          (f.first + length f.parameters) (f.first + length f.parameters) names (λ h. ⊥) (λ ns. Unit {0}) under)
-          (and_then (empties (f.first + length f.parameters) (names_in_block f.body)) flow n left)
+          → GoodHeld types owner permits (key ∷ ways)
+          (Ends types owner permits ways laws.steps key may.loose (known.result key) acts (lying_in w) fs more_sizes
+          size
+          running [] (f.first + length f.parameters) (f.first + length f.parameters) names (λ h. ⊥) (λ ns. Unit {0})
+          under) (and_then (empties (f.first + length f.parameters) (names_in_block f.body)) flow n left)
       ends falls n left fell = absurd fell.ahead
       ends (returns v) n left gone = gone
 
       gave : (flow : Flow) (n : World) (left : ℕ)
-          → Ends types owner permits laws.steps key may.loose (known.result key) acts (lying_in w) fs more_sizes size running []
+          → Ends types owner permits ways laws.steps key may.loose (known.result key) acts
+          (lying_in w) fs more_sizes size running []
           (f.first + length f.parameters) (f.first + length f.parameters) names (λ h. ⊥) (λ ns. Unit {0}) under flow n
-          → GoodHeld types owner permits (Done w) (returned flow n left)
+          → GoodHeld types owner permits (key ∷ ways) (Done w) (returned flow n left)
       gave falls n left fell = absurd fell.ahead
       gave (returns v) n left gone = gone
 
@@ -179,8 +191,9 @@ module _ (types : Types) (owner : ClosedType → Option (List ℕ)) {K W : Type 
       (ends_frame (closed_to (length (lying_in w)) n))
       × (lying_in (ends_frame (closed_to (length (lying_in w)) n)) ≡ lying_in w)
   leaves w v n gone =
-      let over = all_ended types owner permits laws.steps.actions acts (lying_in w) fs more_sizes waiting gone.newest gone.own
-      gone.hold gone.names ((v, known.result key) ∷ under) n gone.going.bottom gone.going.state in
+      let over = all_ended types owner permits ways laws.steps.actions acts (lying_in w) fs more_sizes waiting
+      gone.newest
+      gone.own gone.hold gone.names ((v, known.result key) ∷ under) n gone.going.bottom gone.going.state in
       let m = closed_to (length (lying_in w)) n in
       let last : Going types owner permits key may.loose (known.result key) acts (lying_in w) fs more_sizes size [] size
       (λ k. freed_each (tokens (gone.newest ∷ gone.own)) (gone.hold k)) gone.names ((v, known.result key) ∷ under)
@@ -195,14 +208,17 @@ module _ (types : Types) (owner : ClosedType → Option (List ℕ)) {K W : Type 
       let left = laws.left acts fs more_sizes ((v, known.result key) ∷ under) (closed_to (length (lying_in w)) n)
       laws.steps.actions.typed
       (frame (λ k. freed_each (tokens (gone.newest ∷ gone.own)) (gone.hold k)) gone.names) size
-      (λ k. loose_is types owner permits laws.steps key may.loose (known.result key) acts (lying_in w) fs more_sizes size running [] size
-      (λ k. freed_each (tokens (gone.newest ∷ gone.own)) (gone.hold k)) gone.names ((v, known.result key) ∷ under)
-      (closed_to (length (lying_in w)) n) last k (gone.over k))
-      (λ k from. freed_none (tokens (gone.newest ∷ gone.own)) (gone.hold k) (gone.going.clear k from)) running.count over.0
+      (λ k. loose_is types owner permits ways laws.steps key may.loose (known.result key) acts (lying_in w) fs
+      more_sizes
+      size running [] size (λ k. freed_each (tokens (gone.newest ∷ gone.own)) (gone.hold k)) gone.names
+      ((v, known.result key) ∷ under) (closed_to (length (lying_in w)) n) last k (gone.over k))
+      (λ k from. freed_none (tokens (gone.newest ∷ gone.own)) (gone.hold k) (gone.going.clear k from)) running.count
+      over.0
       in (
         subst (λ (xs : List ℕ). IsIn types owner acts fs xs ((v, known.result key) ∷ under)
             (ends_frame (closed_to (length (lying_in w)) n)))
-            (take_at sizes (length (new_names f.first (values_of made) (names_in_block f.body)) ∷ []) (length fs) many) left,
+            (take_at sizes (length (new_names f.first (values_of made) (names_in_block f.body)) ∷ []) (length fs)
+            many) left,
         over.1,
       )
     where
@@ -214,8 +230,8 @@ module _ (types : Types) (owner : ClosedType → Option (List ℕ)) {K W : Type 
 
   -- what is done behind a body
   leave_good : (q : Value → World → Type 0) (out : Out Value)
-      → GoodHeld types owner permits (λ (v : Value) n. q v (ends_frame n)) out
-      → GoodHeld types owner permits q (follows out (λ v. does ends_frame >> pure v))
+      → GoodHeld types owner permits (key ∷ ways) (λ (v : Value) n. q v (ends_frame n)) out
+      → GoodHeld types owner permits (key ∷ ways) q (follows out (λ v. does ends_frame >> pure v))
   unfolding follows
   leave_good q (gives v n left) good = good
   leave_good q (aborts fault n left) good = good
@@ -223,7 +239,7 @@ module _ (types : Types) (owner : ClosedType → Option (List ℕ)) {K W : Type 
   leave_good q (no_rule n left) good = absurd good
 
   pub enters_good : (w : World) (ticks : ℕ) → IsIn types owner acts fs sizes (onto made under) w
-      → GoodHeld types owner permits
+      → GoodHeld types owner permits (key ∷ ways)
       (λ (v : Value) n. IsIn types owner acts fs sizes ((v, known.result key) ∷ under) n × (lying_in n ≡ lying_in w))
       (enters invoke depth (Some f) (values_of made) w ticks)
   enters_good w ticks state =
@@ -247,7 +263,7 @@ module _ (types : Types) (owner : ClosedType → Option (List ℕ)) {K W : Type 
       (λ (v : Value) n. IsIn types owner acts fs sizes ((v, known.result key) ∷ under) n × (lying_in n ≡ lying_in w))
       (closing (run_block f.view invoke depth (f.first + length (values_of made)) (scope_of f) f.body >>= returned)
       (begins (new_names f.first (values_of made) (names_in_block f.body)) w) ticks)
-      (subst (λ (c : ℕ). GoodHeld types owner permits
+      (subst (λ (c : ℕ). GoodHeld types owner permits (key ∷ ways)
       (λ (v : Value) n. IsIn types owner acts fs sizes ((v, known.result key) ∷ under) (ends_frame n)
       × (lying_in (ends_frame n) ≡ lying_in w))
       (closing (run_block f.view invoke depth (f.first + c) (scope_of f) f.body >>= returned)
@@ -255,10 +271,11 @@ module _ (types : Types) (owner : ClosedType → Option (List ℕ)) {K W : Type 
       (closed_good (begins (new_names f.first (values_of made) (names_in_block f.body)) w) ticks in_frame))))
     where
       closed_good : (m : World) (left : ℕ) → IsIn types owner acts (frame_of f.first made ∷ fs) more_sizes under m
-          → GoodHeld types owner permits
+          → GoodHeld types owner permits (key ∷ ways)
           (λ (v : Value) n. IsIn types owner acts fs sizes ((v, known.result key) ∷ under) (ends_frame n)
           × (lying_in (ends_frame n) ≡ lying_in m))
-          (closing (run_block f.view invoke depth (f.first + length f.parameters) (scope_of f) f.body >>= returned) m left)
+          (closing (run_block f.view invoke depth (f.first + length f.parameters) (scope_of f) f.body >>= returned) m
+          left)
       closed_good m left is =
           let counted = (laws.steps.actions.counted acts (frame_of f.first made ∷ fs) more_sizes under m).0 in
           good_closing owner _
@@ -276,29 +293,80 @@ module _ (types : Types) (owner : ClosedType → Option (List ℕ)) {K W : Type 
 
 -- ---- calls in calls
 
+-- what stands behind one stands behind those before it and it
+behind_one : {A : Type 0} (xs : List A) (a : A) (ys : List A) → xs ++ a ∷ ys ≡ (xs ++ a ∷ []) ++ ys
+behind_one [] a ys = refl
+behind_one {A = A} (x ∷ xs) a ys = ap (λ (zs : List A). x ∷ zs) (behind_one xs a ys)
+
+-- where the frame of a call is among the oldest, those below it are
+held_below : (types : Types) (owner : ClosedType → Option (List ℕ)) {V W : Type 0} (permits : Permits V W) (way : V)
+    (ways : List V) (w : World) → IsCutSo types owner permits (way ∷ ways) w → IsCutSo types owner permits ways w
+held_below types owner {V} permits way ways w so = (
+  so.0,
+  record {
+    newer = so.1.newer ++ way ∷ [];
+    acts = so.1.acts;
+    frames = so.1.frames;
+    sizes = so.1.sizes;
+    under = so.1.under;
+    state = so.1.state;
+    held = subst (λ (all : List V). AllHeld permits all so.1.frames) (behind_one so.1.newer way ways) so.1.held;
+  },
+)
+
+good_below : {A : Type 0} (types : Types) (owner : ClosedType → Option (List ℕ)) {V W : Type 0}
+    (permits : Permits V W) (way : V) (ways : List V) (q : A → World → Type 0) (out : Out A)
+    → GoodHeld types owner permits (way ∷ ways) q out → GoodHeld types owner permits ways q out
+good_below types owner permits way ways q (gives a w left) good = good
+good_below types owner permits way ways q (aborts fault w left) good = good
+good_below types owner permits way ways q (cut w) good = held_below types owner permits way ways w good
+good_below types owner permits way ways q (no_rule w left) good = absurd good
+
 pub calls_at_safe : (types : Types) (owner : ClosedType → Option (List ℕ)) {K W : Type 0} (permits : Permits K W)
-    (laws : RunsAreSafe types owner)
-    {I T C E : Type 0} (known : Callables I K) (calls : Calls K E) (functions : I → Option (Function I T C))
-    → AllRun types owner permits known calls functions → (depth : ℕ) → CallsSafe types owner permits known (call_at functions depth)
+    (laws : RunsAreSafe types owner) {I T C E : Type 0} (known : Callables I K) (calls : Calls K E)
+    (functions : I → Option (Function I T C)) → AllRun types owner permits known calls functions
+    → (ways : List K) (depth : ℕ) → CallsSafe types owner permits ways known (call_at functions depth)
 unfolding call_at
-calls_at_safe types owner permits laws known calls functions all zero key acts fs sizes made under w ticks active waiting many typed
-    state = (
+calls_at_safe types owner permits laws known calls functions all ways zero key acts fs sizes made under w ticks active
+    waiting many typed state = (
       laws.steps.actions.told acts fs sizes (onto made under) w state,
       record {
+        newer = [];
         acts = acts;
         frames = fs;
         sizes = sizes;
         under = onto made under;
         state = state;
-        held = all_held permits (is_active acts) fs waiting;
+        held = all_held permits ways (is_active acts) fs waiting;
       },
     )
-calls_at_safe types owner permits laws known calls functions all (suc depth) key acts fs sizes made under w ticks active waiting many
-    typed state =
+calls_at_safe types owner permits laws known calls functions all ways (suc depth) key acts fs sizes made under w ticks
+    active waiting many typed state =
     let one = all key in
-    subst (λ o. GoodHeld types owner permits
+    subst (λ o. GoodHeld types owner permits ways
     (λ (v : Value) n. IsIn types owner acts fs sizes ((v, known.result key) ∷ under) n × (lying_in n ≡ lying_in w))
     (enters (call_at functions depth) depth o (values_of made) w ticks)) (sym one.1)
-    (enters_good types owner permits laws known calls (call_at functions depth) key
-    (λ call. calls_at_safe types owner permits laws known calls functions all depth (calls.to call.0)) depth one.0 one.2 acts fs sizes made under active waiting
-    many typed w ticks state)
+    (good_below types owner permits key ways
+    (λ (v : Value) n. IsIn types owner acts fs sizes ((v, known.result key) ∷ under) n × (lying_in n ≡ lying_in w))
+    (enters (call_at functions depth) depth (Some one.0) (values_of made) w ticks)
+    (enters_good types owner permits ways laws known calls (call_at functions depth) key
+    (λ call. calls_at_safe types owner permits laws known calls functions all (key ∷ ways) depth (calls.to call.0))
+    depth
+    one.0 one.2 acts fs sizes made under active waiting many typed w ticks state))
+
+-- while a call runs, its frame is among those that are held
+pub calls_hold : (types : Types) (owner : ClosedType → Option (List ℕ)) {K W : Type 0} (permits : Permits K W)
+    (laws : RunsAreSafe types owner) {I T C E : Type 0} (known : Callables I K) (calls : Calls K E)
+    (functions : I → Option (Function I T C)) → AllRun types owner permits known calls functions
+    → CallsHold types owner permits known functions
+unfolding call_at
+calls_hold types owner permits laws known calls functions all ways depth key acts fs sizes made under w ticks active
+    waiting many typed state =
+    let one = all key in
+    subst (λ o. GoodHeld types owner permits (key ∷ ways)
+    (λ (v : Value) n. IsIn types owner acts fs sizes ((v, known.result key) ∷ under) n × (lying_in n ≡ lying_in w))
+    (enters (call_at functions depth) depth o (values_of made) w ticks)) (sym one.1)
+    (enters_good types owner permits ways laws known calls (call_at functions depth) key
+    (λ call. calls_at_safe types owner permits laws known calls functions all (key ∷ ways) depth (calls.to call.0))
+    depth
+    one.0 one.2 acts fs sizes made under active waiting many typed w ticks state)

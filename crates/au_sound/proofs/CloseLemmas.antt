@@ -106,18 +106,19 @@ newest_off a older sorted = by (is_active older a.token) refl
 -- ---- all tokens of a frame
 
 module _ (types : Types) (owner : ClosedType → Option (List ℕ)) {V W : Type 0} (permits : Permits V W)
+    (ways : List V)
     (laws : ActionsAreSafe types owner) (below : List Act)
-    (base : Lying) (fs : List Frame) (sizes : List ℕ) (waiting : AllWait permits (is_active below) fs) where
+    (base : Lying) (fs : List Frame) (sizes : List ℕ) (waiting : AllWait permits ways (is_active below) fs) where
   -- the newest one ends
   one_ended : (a : Act) (own : List Act) (hold : Standing) (names : Names) (made : Made) (n : World)
       → IsIn types owner (a ∷ (own ++ below)) (frame hold names ∷ fs) sizes made n
       → IsIn types owner (own ++ below) (frame (λ k. freed a.token (hold k)) names ∷ fs) sizes made
       (closed_to (length a.base) n)
   one_ended a own hold names made n state =
-      subst (λ (gs : List Frame). IsIn types owner (own ++ below) (frame (λ k. freed a.token (hold k)) names ∷ gs) sizes made
-      (closed_to (length a.base) n))
-      (frames_stay permits (is_active (own ++ below)) a.token fs
-      (all_more permits (is_active below) (is_active (own ++ below)) (more_active own below) fs waiting)
+      subst (λ (gs : List Frame). IsIn types owner (own ++ below) (frame (λ k. freed a.token (hold k)) names ∷ gs) sizes
+      made (closed_to (length a.base) n))
+      (frames_stay permits ways (is_active (own ++ below)) a.token fs
+      (all_more permits ways (is_active below) (is_active (own ++ below)) (more_active own below) fs waiting)
       (newest_off a (own ++ below) state.safe.inv.sorted))
       (laws.ended (a ∷ (own ++ below)) (frame hold names ∷ fs) sizes made n a (own ++ below) refl state)
 
@@ -138,5 +139,5 @@ module _ (types : Types) (owner : ClosedType → Option (List ℕ)) {V W : Type 
       let less : length base ≤ length a.base =
       bottom_below (b ∷ own) below a.base base state.safe.inv.stacked.1 bottom in
       subst (λ (m : World). IsIn types owner below
-      (frame (λ k. freed_each (tokens (b ∷ own)) (freed a.token (hold k))) names ∷ fs) sizes made m × (lying_in m ≡ base))
-      (closed_twice (length base) (length a.base) n less) rest
+      (frame (λ k. freed_each (tokens (b ∷ own)) (freed a.token (hold k))) names ∷ fs) sizes made m
+      × (lying_in m ≡ base)) (closed_twice (length base) (length a.base) n less) rest

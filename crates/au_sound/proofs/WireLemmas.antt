@@ -52,8 +52,10 @@ module _ (types : Types) (owner : ClosedType → Option (List ℕ)) (typed : Are
     lent = λ acts f fs sizes size under w ticks. lends_well types owner acts f fs sizes size under w ticks;
     read = λ acts f fs sizes size under w ticks. reads_well types owner acts f fs sizes size under w ticks;
     relent = λ acts f fs sizes size under w ticks. relends_well types owner acts f fs sizes size under w ticks;
-    writers_read = λ acts f fs sizes size under w ticks. writers_read_well types owner acts f fs sizes size under w ticks;
-    readers_read = λ acts f fs sizes size under w ticks. readers_read_well types owner acts f fs sizes size under w ticks;
+    writers_read = λ acts f fs sizes size under w ticks. writers_read_well types owner acts f fs sizes size under w
+        ticks;
+    readers_read = λ acts f fs sizes size under w ticks. readers_read_well types owner acts f fs sizes size under w
+        ticks;
     named_statics = λ acts f fs sizes size under w. no_named_statics types owner acts f fs sizes size under w typed;
     writers_looked = λ acts f fs sizes size under w ticks.
         writers_look_well types owner acts f fs sizes size under w ticks typed;

@@ -1,22 +1,26 @@
 -- What runs of programs give that are judged so.
-use Rattle.std.specs.Prelude.{◌≡◌, ℕ, true, List, [], ◌∷◌, Option, codes}
+use Rattle.std.specs.Prelude.{◌≡◌, ℕ, suc, true, List, [], ◌∷◌, length, Option, codes}
 use Rattle.au_events.specs.Events.{AllClosed, AtMostOnce, Inside, Once, OwnMade}
 use Rattle.au_type_texts.specs.Types.{ClosedType}
 use Rattle.au_types.specs.Types.{Meaning}
 use Rattle.au_memory.specs.Forests.{Made}
 use Rattle.au_memory.specs.Loans.{Types}
-use Rattle.au_safe_ships.specs.Orders.{Act}
+use Rattle.au_lending.specs.Records.{onto, types_made}
+use Rattle.au_safe_ships.specs.Orders.{Act, is_active}
 use Rattle.au_safe_ships.specs.Frames.{Frame}
-use Rattle.au_meaning.specs.Meanings.{mean, parameters_of}
+use Rattle.au_meaning.specs.Meanings.{call_at, mean, parameters_of}
 use Rattle.au_meaning.specs.Views.{Field, Function}
-use Rattle.au_meaning.specs.Worlds.{Ending, Outcome, World, abort, exit, running, stuck}
+use Rattle.au_meaning.specs.Worlds.{Ending, Outcome, Value, World, abort, exit, running, stuck}
+use Rattle.au_safe_ships.specs.Good.{IsIn, lying_in}
+use Rattle.au_safe_ships.specs.Making.{values_of}
 use Rattle.au_safe_ships.specs.Exclusive.{IsExclusive}
 use Rattle.au_safe_ships.specs.Entering.{EntersWell, LeavesWell}
 use Rattle.au_safe_ships.specs.Sound.{IsHomeOf}
 use Rattle.au_safe_ships.specs.Beginning.{ExitsWell, FinishesWell, IsExitOf, RootsComeWell, StartsWell}
 use Rattle.au_sound_blocks.specs.Blocks.{AllRun}
-use Rattle.au_sound_blocks.specs.Held.{HoldsWell, Permits}
-use Rattle.au_sound_blocks.specs.Known.{Callables, Calls}
+use Rattle.au_sound_blocks.specs.Held.{GoodHeld, HoldsWell, Permits}
+use Rattle.au_sound_blocks.specs.Known.{AreActive, Callables, Calls}
+use Rattle.au_sound_blocks.specs.Safe.{AllWait}
 use Rattle.au_sound_blocks.specs.Steps.{StepsAreSafe}
 
 -- Each action of a run is safe.
@@ -63,10 +67,27 @@ pub record IsEntry (types : Types) (owner : ClosedType → Option (List ℕ)) {I
   pub gives : IsExitOf types (known.result key)
   pub open_none : known.tokens key ≡ []
 
--- Where a run is cut off, names hold what they may.
+-- Where a run is cut off, before whichever of its ticks, each frame is of a function that was called in some
+-- way, the oldest ones in these, and each of its names that holds something is of a type that is permitted in
+-- this way.
 abbrev pub HoldsWhereCut : (types : Types) → (ClosedType → Option (List ℕ)) → {V W : Type 0} → Permits V W
-    → Outcome → Type 0
-HoldsWhereCut types owner permits seen = seen.ending ≡ running → HoldsWell types owner permits seen.world
+    → List V → Outcome → Type 0
+HoldsWhereCut types owner permits ways seen =
+    seen.ending ≡ running → HoldsWell types owner permits ways seen.world
+
+-- A call in some way, from wherever its arguments are under way, comes to something good; and wherever it is
+-- cut off, its own frame lies on those that were there, and its names hold what they may in this way.
+abbrev pub CallsHold : (types : Types) → (ClosedType → Option (List ℕ)) → {K W : Type 0} → Permits K W
+    → {I T C : Type 0} → Callables I K → (I → Option (Function I T C)) → Type 0
+CallsHold types owner {K} permits known functions =
+    (ways : List K) (depth : ℕ) (key : K) (acts : List Act) (fs : List Frame) (sizes : List ℕ)
+    (made under : Made) (w : World) (ticks : ℕ) → AreActive (is_active acts) (known.tokens key)
+    → AllWait permits ways (is_active acts) fs → length sizes ≡ length fs
+    → types_made made ≡ known.parameters key → IsIn types owner acts fs sizes (onto made under) w
+    → GoodHeld types owner permits (key ∷ ways)
+    (λ (v : Value) n. IsIn types owner acts fs sizes ((v, known.result key) ∷ under) n
+    × (lying_in n ≡ lying_in w))
+    (call_at functions (suc depth) (known.of key) (values_of made) w ticks)
 
 -- Where each function may be run at each key, every run from an entry is seen well, whatever the input and
 -- however many ticks there are; and names hold what they may wherever it is cut off.
@@ -75,4 +96,4 @@ abbrev pub RunsWell : (types : Types) → (ClosedType → Option (List ℕ)) →
 RunsWell types owner {K} {W} permits {I} {T} {C} known calls functions =
     AllRun types owner permits known calls functions → (key : K) → IsEntry types owner known functions key
     → (input : List ℕ) (ticks : ℕ) → IsSeenWell owner (mean functions (known.of key) input ticks)
-    × HoldsWhereCut types owner permits (mean functions (known.of key) input ticks)
+    × HoldsWhereCut types owner permits (key ∷ []) (mean functions (known.of key) input ticks)

@@ -52,19 +52,21 @@ met_one x one h met =
     subst (λ c. Ready (stand (h x.number)) c) (where_own x one ∙ sym (plus_nothing one)) (met x.number)
 
 module _ (types : Types) (owner : ClosedType → Option (List ℕ)) {V W : Type 0} (permits : Permits V W)
-    (laws : StepsAreSafe types owner) (key : V) (loose : ℕ → Bool)
+    (ways : List V) (laws : StepsAreSafe types owner) (key : V) (loose : ℕ → Bool)
     (result : Meaning) (below : List Act) (base : Lying) (fs : List Frame) (sizes : List ℕ) (size : ℕ)
     (running : IsRunning sizes fs size) {I T C K : Type 0} (see : View I T C) (known : Callables I K)
-    (invoke : I → List Value → Action Value) (calls_safe : CallsSafe types owner permits known invoke)
-    (waiting : AllWait permits (is_active below) fs) where
+    (invoke : I → List Value → Action Value) (calls_safe : CallsSafe types owner permits (key ∷ ways) known invoke)
+    (waiting : AllWait permits ways (is_active below) fs) where
   abbrev Gos : List Act → ℕ → Standing → Names → Made → World → Type 0
-  Gos own number h names under w = Goes types owner permits laws key loose result below base fs sizes size running own
+  Gos own number h names under w = Goes types owner permits ways laws key loose result below base fs sizes size
+      running own
       number h names under w
 
   abbrev Ending : List Act → (kept next : ℕ) → Names → (Standing → Type 0) → (Names → Type 0) → Made → Flow → World
       → Type 0
   Ending own kept next before A R under flow w =
-      Ends types owner permits laws key loose result below base fs sizes size running own kept next before A R under
+      Ends types owner permits ways laws key loose result below base fs sizes size running own kept next before A R
+      under
       flow w
 
   -- an action on a value of an expression, after which the frame goes on
@@ -74,17 +76,19 @@ module _ (types : Types) (owner : ClosedType → Option (List ℕ)) {V W : Type 
       → IsWholeOf types owner see known result loose permits key (is_active (own ++ below)) names scope e t
       → AreReady h (λ k. uses see k scope e) → Gos own number h names under w
       → ((v : Value) (n : World) (left : ℕ) → Gos own number (after_whole see loose scope e h) names ((v, t) ∷ under) n
-      → GoodHeld types owner permits (Ending own number next names A R under) (go v n left))
-      → GoodHeld types owner permits (Ending own number next names A R under)
+      → GoodHeld types owner permits (key ∷ ways) (Ending own number next names A R under) (go v n left))
+      → GoodHeld types owner permits (key ∷ ways) (Ending own number next names A R under)
       ((whole see invoke scope e >>= (λ v. tick (go v))) w ticks)
   after_value number next scope e t own A R h names under w ticks go fits met going goes =
       let q = Ending own number next names A R under in
       good_then owner _ (λ (v : Value) n. Gos own number (after_whole see loose scope e h) names ((v, t) ∷ under) n) q
       (whole see invoke scope e w ticks) (λ v. tick (go v))
-      (value_safe types owner permits laws key loose result below base fs sizes size running see known invoke calls_safe
+      (value_safe types owner permits ways laws key loose result below base fs sizes size running see known invoke
+      calls_safe
       waiting t scope e own number h names under w ticks fits met going)
       (λ v n left on.
-      ticks_on types owner permits laws key loose result below base fs sizes size running waiting q (go v) own number
+      ticks_on types owner permits ways laws key loose result below base fs sizes size running waiting q (go v) own
+      number
       (after_whole see loose scope e h) names ((v, t) ∷ under) n left on (λ more. goes v n more on))
 
   -- ---- a record is taken apart
@@ -100,20 +104,20 @@ module _ (types : Types) (owner : ClosedType → Option (List ℕ)) {V W : Type 
       → R (with_types number bound.bound names)
       → Steps see loose scope e h (λ g. A (put_each number (length binds) forest.ready g))
       → number + length binds ≤ size → Gos own number h names under w
-      → GoodHeld types owner permits (Ending own number (number + length binds) names A R under)
+      → GoodHeld types owner permits (key ∷ ways) (Ending own number (number + length binds) names A R under)
       ((whole see invoke scope e >>= (λ v. tick (takes_apart see number binds (note_of e) v))) w ticks)
   destructure_safe number scope e binds own A R h names under w ticks fields kinds fits noted bound says steps room
       going =
       good_then owner _
-      (Valued types owner permits laws key loose result below base fs sizes size running own number
+      (Valued types owner permits ways laws key loose result below base fs sizes size running own number
       (IsRecordOf types owner see known result loose permits key kinds) (after_whole see loose scope e h) names under)
       (Ending own number (number + length binds) names A R under) (whole see invoke scope e w ticks)
       (λ v. tick (takes_apart see number binds (note_of e) v))
-      (values_safe types owner permits laws key loose result below base fs sizes size running see known invoke
+      (values_safe types owner permits ways laws key loose result below base fs sizes size running see known invoke
       calls_safe waiting (IsRecordOf types owner see known result loose permits key kinds) scope e own number h names
       under w ticks (λ z off. let fit = fits z off in (fit.0, fit.2, fit.1)) steps.0 going)
       (λ v n left valued.
-      ticks_on types owner permits laws key loose result below base fs sizes size running waiting
+      ticks_on types owner permits ways laws key loose result below base fs sizes size running waiting
       (Ending own number (number + length binds) names A R under) (takes_apart see number binds (note_of e) v) own
       number (after_whole see loose scope e h) names ((v, valued.of) ∷ under) n left valued.going
       (λ more. opened v valued.of valued.is n more valued.going))
@@ -134,7 +138,7 @@ module _ (types : Types) (owner : ClosedType → Option (List ℕ)) {V W : Type 
           → (p : ℕ × List Value) (m : World)
           (more : ℕ) (parts : Made) → p.1 ≡ values_of parts → types.fields of p.0 ≡ Some (types_made parts)
           → Gos own number (after_whole see loose scope e h) names (onto parts under) m
-          → GoodHeld types owner permits (Ending own number (number + length binds) names A R under)
+          → GoodHeld types owner permits (key ∷ ways) (Ending own number (number + length binds) names A R under)
           ((where_true (p.0 == 0) (binds_fields number binds (fields_noted see (note_of e)) p.1) >> pure falls) m more)
       filled of its p m more parts are typed on =
           let zero_is : p.0 ≡ 0 = its.1 p.0 (types_made parts) typed in
@@ -144,7 +148,8 @@ module _ (types : Types) (owner : ClosedType → Option (List ℕ)) {V W : Type 
           let r = λ (u : Unit {0}) (n : World). Gos own (number + length binds)
           (put_each number (length binds) forest.ready (after_whole see loose scope e h))
           (with_types number bound.bound names) under n in
-          let bind = binds_good types owner permits laws key loose result below base fs sizes size running see known
+          let bind = binds_good types owner permits ways laws key loose result below base fs sizes size running see
+          known
           invoke calls_safe waiting own number binds fields kinds bound (after_whole see loose scope e h) names parts
           under m more kinds_are room on in
           good_then owner _
@@ -158,12 +163,12 @@ module _ (types : Types) (owner : ClosedType → Option (List ℕ)) {V W : Type 
           (put_each number (length binds) forest.ready (after_whole see loose scope e h))
           (with_types number bound.bound names) under n) (p.0 == 0)
           (binds_fields number binds (fields_noted see (note_of e)) p.1) m more (eq-eqb p.0 0 zero_is)
-          (subst (λ (vs : List Value). GoodHeld types owner permits
+          (subst (λ (vs : List Value). GoodHeld types owner permits (key ∷ ways)
           (λ (u : Unit {0}) n. Gos own (number + length binds)
           (put_each number (length binds) forest.ready (after_whole see loose scope e h))
           (with_types number bound.bound names) under n)
           (binds_fields number binds (fields_noted see (note_of e)) vs m more)) (sym are)
-          (subst (λ (f : Option (List Field)). GoodHeld types owner permits
+          (subst (λ (f : Option (List Field)). GoodHeld types owner permits (key ∷ ways)
           (λ (u : Unit {0}) n. Gos own (number + length binds)
           (put_each number (length binds) forest.ready (after_whole see loose scope e h))
           (with_types number bound.bound names) under n) (binds_fields number binds f (values_of parts) m more))
@@ -180,19 +185,19 @@ module _ (types : Types) (owner : ClosedType → Option (List ℕ)) {V W : Type 
       opened : (v : Value) (of : Meaning) → IsRecordOf types owner see known result loose permits key kinds of
           → (n : World) (left : ℕ)
           → Gos own number (after_whole see loose scope e h) names ((v, of) ∷ under) n
-          → GoodHeld types owner permits (Ending own number (number + length binds) names A R under)
+          → GoodHeld types owner permits (key ∷ ways) (Ending own number (number + length binds) names A R under)
           (takes_apart see number binds (note_of e) v n left)
       opened v of its n left on =
           good_then owner _ (λ (p : ℕ × List Value) m. mid of p m × (lying_in m ≡ lying_in n))
           (Ending own number (number + length binds) names A R under) (apart v n left)
           (λ p. where_true (p.0 == 0) (binds_fields number binds (fields_noted see (note_of e)) p.1) >> pure falls)
           (good_apart owner _ (mid of) v n left
-          (good_uncut owner (IsCutSo types owner permits) (mid of) (apart v n left)
+          (good_uncut owner (IsCutSo types owner permits (key ∷ ways)) (mid of) (apart v n left)
           (laws.apart (own ++ below) (frame (after_whole see loose scope e h) names ∷ fs) sizes under n left
           laws.actions.typed v of 0 kinds its.0 on.state)))
           (λ p m more both.
           filled of its p m more both.0.0 both.0.1 both.0.2
-          (goes_with types owner permits laws key loose result below base fs sizes size running own number
+          (goes_with types owner permits ways laws key loose result below base fs sizes size running own number
           (after_whole see loose scope e h) names ((v, of) ∷ under) (onto both.0.0 under) n m both.1 both.0.3 on))
 
   -- ---- a part of a variable is set
@@ -204,7 +209,7 @@ module _ (types : Types) (owner : ClosedType → Option (List ℕ)) {V W : Type 
       → LooksInto types owner see known names 0 (is_active (own ++ below)) o fields of → R names
       → Steps see loose scope e h (λ g. AreReady g (λ k. where_of k o one_write_borrow) × A g)
       → Gos own number h names under w
-      → GoodHeld types owner permits (Ending own number number names A R under)
+      → GoodHeld types owner permits (key ∷ ways) (Ending own number number names A R under)
       ((whole see invoke scope e >>= (λ v. tick (assigns see o fields v))) w ticks)
   assign_safe number scope e None fields own A R h names under w ticks of fits into says steps going = absurd into
   assign_safe number scope e (Some x) fields own A R h names under w ticks of fits into says steps going =
@@ -223,15 +228,15 @@ module _ (types : Types) (owner : ClosedType → Option (List ℕ)) {V W : Type 
       (good_sets owner _
       (λ (old : Value) m. IsIn types owner (own ++ below) (frame (after_whole see loose scope e h) names ∷ fs) sizes
       under m) x.number into.0 v n left
-      (good_uncut owner (IsCutSo types owner permits)
+      (good_uncut owner (IsCutSo types owner permits (key ∷ ways))
       (λ (old : Value) m. IsIn types owner (own ++ below) (frame (after_whole see loose scope e h) names ∷ fs) sizes
       under m) (sets x.number into.0 v n left)
       (laws.set (own ++ below) (frame (after_whole see loose scope e h) names) fs sizes size under n left typed.forms
       typed.cases typed.lawful running x.number into.0 v of is into.2 into.3 on.state)))
       (λ old m more both.
-      falls_on types owner permits laws key loose result below base fs sizes size running own number number
+      falls_on types owner permits ways laws key loose result below base fs sizes size running own number number
       (after_whole see loose scope e h) names A R under m steps.1.1 says
-      (goes_with types owner permits laws key loose result below base fs sizes size running own number
+      (goes_with types owner permits ways laws key loose result below base fs sizes size running own number
       (after_whole see loose scope e h) names ((v, of) ∷ under) under n m both.1 both.0 on))))
 
   -- ---- a part of what the reference in a variable leads to is set
@@ -245,7 +250,7 @@ module _ (types : Types) (owner : ClosedType → Option (List ℕ)) {V W : Type 
       (λ u. IsNamed types owner see known names 0 (is_active (own ++ below)) o (writes u region))
       → R names → Steps see loose scope e h (λ g. AreReady g (λ k. where_of k o one_look) × A g)
       → Gos own number h names under w
-      → GoodHeld types owner permits (Ending own number number names A R under)
+      → GoodHeld types owner permits (key ∷ ways) (Ending own number number names A R under)
       ((whole see invoke scope e >>= (λ v. tick (assigns_behind see o fields v))) w ticks)
   through_safe number scope e None fields own A R h names under w ticks of region fits free to says steps going =
       absurd to
@@ -256,24 +261,25 @@ module _ (types : Types) (owner : ClosedType → Option (List ℕ)) {V W : Type 
       (ready.looks (stand (after_whole see loose scope e h x.number)) unmentioned
       (met_one x one_look (after_whole see loose scope e h) steps.1.0)).0 in
       let q = Ending own number number names A R under in
-      subst (λ (p : Option (List ℕ)). GoodHeld types owner permits (Ending own number number names A R under)
+      subst (λ (p : Option (List ℕ)). GoodHeld types owner permits (key ∷ ways)
+      (Ending own number number names A R under)
       (follows (needing p (refers x.number) n left) (λ one. puts one v >> pure falls))) (sym to.2)
-      (subst (λ out. GoodHeld types owner permits (Ending own number number names A R under) out)
+      (subst (λ out. GoodHeld types owner permits (key ∷ ways) (Ending own number number names A R under) out)
       (follows_apart (refers x.number to.0 n left) (λ one. puts one v) (λ old. pure falls))
       (good_then owner _
       (λ (old : Value) m. IsIn types owner (own ++ below) (frame (after_whole see loose scope e h) names ∷ fs) sizes
       under m × (lying_in m ≡ lying_in n)) (Ending own number number names A R under)
       (follows (refers x.number to.0 n left) (λ one. puts one v)) (λ old. pure falls)
-      (good_puts owner (IsCutSo types owner permits)
+      (good_puts owner (IsCutSo types owner permits (key ∷ ways))
       (λ (old : Value) m. IsIn types owner (own ++ below) (frame (after_whole see loose scope e h) names ∷ fs) sizes
       under m) x.number to.0 v n left
-      (good_uncut owner (IsCutSo types owner permits)
+      (good_uncut owner (IsCutSo types owner permits (key ∷ ways))
       (λ (old : Value) m. IsIn types owner (own ++ below) (frame (after_whole see loose scope e h) names ∷ fs) sizes
       under m) (follows (refers x.number to.0 n left) (λ one. puts one v)) (put v n left on is to.4)))
       (λ old m more both.
-      falls_on types owner permits laws key loose result below base fs sizes size running own number number
+      falls_on types owner permits ways laws key loose result below base fs sizes size running own number number
       (after_whole see loose scope e h) names A R under m steps.1.1 says
-      (goes_with types owner permits laws key loose result below base fs sizes size running own number
+      (goes_with types owner permits ways laws key loose result below base fs sizes size running own number
       (after_whole see loose scope e h) names ((v, of) ∷ under) under n m both.1 both.0 on)))))
     where
       put : (v : Value) (n : World) (left : ℕ)

@@ -42,19 +42,21 @@ use Rattle.au_sound_blocks.proofs.LoopLemmas.{ends_based}
 use Rattle.au_sound_expressions.specs.Held.{GoodHeld, IsCutSo, Permits}
 
 module _ (types : Types) (owner : ClosedType → Option (List ℕ)) {V W : Type 0} (permits : Permits V W)
-    (laws : StepsAreSafe types owner) (key : V) (loose : ℕ → Bool)
+    (ways : List V) (laws : StepsAreSafe types owner) (key : V) (loose : ℕ → Bool)
     (result : Meaning) (below : List Act) (base : Lying) (fs : List Frame) (sizes : List ℕ) (size : ℕ)
     (running : IsRunning sizes fs size) {I T C K : Type 0} (see : View I T C) (known : Callables I K)
-    (invoke : I → List Value → Action Value) (calls_safe : CallsSafe types owner permits known invoke)
-    (waiting : AllWait permits (is_active below) fs) where
+    (invoke : I → List Value → Action Value) (calls_safe : CallsSafe types owner permits (key ∷ ways) known invoke)
+    (waiting : AllWait permits ways (is_active below) fs) where
   abbrev Gos : List Act → ℕ → Standing → Names → Made → World → Type 0
-  Gos own number h names under w = Goes types owner permits laws key loose result below base fs sizes size running own
+  Gos own number h names under w = Goes types owner permits ways laws key loose result below base fs sizes size
+      running own
       number h names under w
 
   abbrev Ending : List Act → (kept next : ℕ) → Names → (Standing → Type 0) → (Names → Type 0) → Made → Flow → World
       → Type 0
   Ending own kept next before A R under flow w =
-      Ends types owner permits laws key loose result below base fs sizes size running own kept next before A R under
+      Ends types owner permits ways laws key loose result below base fs sizes size running own kept next before A R
+      under
       flow w
 
   -- ---- one arm
@@ -68,31 +70,33 @@ module _ (types : Types) (owner : ClosedType → Option (List ℕ)) {V W : Type 
       → ((m : World) (last : ℕ)
       → Gos own (number + length binds) (put_each number (length binds) forest.ready h)
       (with_types number bound.bound names) under m
-      → GoodHeld types owner permits
+      → GoodHeld types owner permits (key ∷ ways)
       (Ending own (number + length binds) ((number + length binds) + more) (with_types number bound.bound names)
       (λ g. ((k : ℕ) → number ≤ k → k < number + (length binds + more) → IsOver (loose k) (g k))
       × A (put_each number (length binds + more) empty g)) (λ ns. Unit {0}) under) (block m last))
-      → GoodHeld types owner permits (Ending own number number names A S under)
+      → GoodHeld types owner permits (key ∷ ways) (Ending own number number names A S under)
       (within number (length binds + more) (binds_fields number binds o (values_of parts) >> block) n left)
   arm_safe own number more binds o fields ts A S h names parts under n left block noted bound same room says going safe
       =
-      within_safe types owner permits laws key loose result below base fs sizes size running own number
+      within_safe types owner permits ways laws key loose result below base fs sizes size running own number
       (length binds + more) names A (λ ns. Unit {0}) S under (binds_fields number binds o (values_of parts) >> block) n
       left room says (good_then owner _
       (λ (u : Unit {0}) m. Gos own (number + length binds) (put_each number (length binds) forest.ready h)
       (with_types number bound.bound names) under m) q
       (binds_fields number binds o (values_of parts) n left) (λ u. block)
-      (subst (λ (f : Option (List Field)). GoodHeld types owner permits
+      (subst (λ (f : Option (List Field)). GoodHeld types owner permits (key ∷ ways)
       (λ (u : Unit {0}) m. Gos own (number + length binds) (put_each number (length binds) forest.ready h)
       (with_types number bound.bound names) under m) (binds_fields number binds f (values_of parts) n left)) (sym noted)
-      (binds_good types owner permits laws key loose result below base fs sizes size running see known invoke calls_safe
+      (binds_good types owner permits ways laws key loose result below base fs sizes size running see known invoke
+      calls_safe
       waiting own number binds fields ts bound h names parts under n left same (omega arith) going))
       (λ u m last on.
       good_so owner _
       (Ending own (number + length binds) ((number + length binds) + more) (with_types number bound.bound names)
       (λ g. ((k : ℕ) → number ≤ k → k < number + (length binds + more) → IsOver (loose k) (g k))
       × A (put_each number (length binds + more) empty g)) (λ ns. Unit {0}) under) q (block m last)
-      (λ flow p ended. ends_based types owner permits laws key loose result below base fs sizes size running see known
+      (λ flow p ended. ends_based types owner permits ways laws key loose result below base fs sizes size running see
+      known
       invoke calls_safe waiting own (number + length binds) number ((number + length binds) + more)
       (number + (length binds + more)) (with_types number bound.bound names) names
       (λ g. ((k : ℕ) → number ≤ k → k < number + (length binds + more) → IsOver (loose k) (g k))
@@ -152,23 +156,24 @@ module _ (types : Types) (owner : ClosedType → Option (List ℕ)) {V W : Type 
       → ((number_of_case : ℕ) (of_parts : List Meaning) (parts : Made) (n : World) (left : ℕ)
       → types.fields of number_of_case ≡ Some of_parts → types_made parts ≡ map (through told) of_parts
       → Gos own number (after_whole see loose scope e h) names (onto parts under) n
-      → GoodHeld types owner permits (Ending own number next names A R under)
+      → GoodHeld types owner permits (key ∷ ways) (Ending own number next names A R under)
       (go (number_of_case, values_of parts) n left))
       → Gos own number h names under w
-      → GoodHeld types owner permits (Ending own number next names A R under)
+      → GoodHeld types owner permits (key ∷ ways) (Ending own number next names A R under)
       ((whole see invoke scope e >>= (λ v. tick (tells_apart v >>= go))) w ticks)
   case_safe number next scope e own A R h names under w ticks of told tag ts go scoped fits fields met goes going =
-      after_value types owner permits laws key loose result below base fs sizes size running see known invoke calls_safe
+      after_value types owner permits ways laws key loose result below base fs sizes size running see known invoke
+      calls_safe
       waiting number next scope e (through told of) own A R h names under w ticks (λ v. tells_apart v >>= go) fits met
       going (λ v n left on.
       good_then owner _
       (λ (p : ℕ × List Value) m. HasTold types owner (own ++ below)
       (frame (after_whole see loose scope e h) names ∷ fs) sizes under types of (through told) p m
       × (lying_in m ≡ lying_in n)) (Ending own number next names A R under) (tells_apart v n left) go
-      (good_stored owner (IsCutSo types owner permits)
+      (good_stored owner (IsCutSo types owner permits (key ∷ ways))
       (HasTold types owner (own ++ below) (frame (after_whole see loose scope e h) names ∷ fs) sizes under types of
       (through told)) (told_apart v n.store) n left
-      (good_uncut owner (IsCutSo types owner permits)
+      (good_uncut owner (IsCutSo types owner permits (key ∷ ways))
       (HasTold types owner (own ++ below) (frame (after_whole see loose scope e h) names ∷ fs) sizes under types of
       (through told)) (tells_apart v n left)
       (told_good told own number (after_whole see loose scope e h) names under v of tag ts n left scoped fields
@@ -179,10 +184,10 @@ module _ (types : Types) (owner : ClosedType → Option (List ℕ)) {V W : Type 
           (through told) p m
           → lying_in m ≡ lying_in n
           → Gos own number (after_whole see loose scope e h) names ((v, through told of) ∷ under) n
-          → GoodHeld types owner permits (Ending own number next names A R under) (go p m more)
+          → GoodHeld types owner permits (key ∷ ways) (Ending own number next names A R under) (go p m more)
       came p v n m more has lies on =
-          subst (λ (vs : List Value). GoodHeld types owner permits (Ending own number next names A R under)
+          subst (λ (vs : List Value). GoodHeld types owner permits (key ∷ ways) (Ending own number next names A R under)
           (go (p.0, vs) m more)) (sym has.3)
           (goes p.0 has.0 has.1 m more has.2 has.4
-          (goes_with types owner permits laws key loose result below base fs sizes size running own number
+          (goes_with types owner permits ways laws key loose result below base fs sizes size running own number
           (after_whole see loose scope e h) names ((v, through told of) ∷ under) (onto has.1 under) n m lies has.5 on))

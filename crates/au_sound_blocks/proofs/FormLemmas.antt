@@ -92,19 +92,21 @@ freed_empty z (watched zs) is = by (others_of z zs) is
     by (y ∷ ys) same = absurd cc
 
 module _ (types : Types) (owner : ClosedType → Option (List ℕ)) {V W : Type 0} (permits : Permits V W)
-    (laws : StepsAreSafe types owner) (key : V) (loose : ℕ → Bool)
+    (ways : List V) (laws : StepsAreSafe types owner) (key : V) (loose : ℕ → Bool)
     (result : Meaning) (below : List Act) (base : Lying) (fs : List Frame) (sizes : List ℕ) (size : ℕ)
     (running : IsRunning sizes fs size) {I T C K : Type 0} (see : View I T C) (known : Callables I K)
-    (invoke : I → List Value → Action Value) (calls_safe : CallsSafe types owner permits known invoke)
-    (waiting : AllWait permits (is_active below) fs) where
+    (invoke : I → List Value → Action Value) (calls_safe : CallsSafe types owner permits (key ∷ ways) known invoke)
+    (waiting : AllWait permits ways (is_active below) fs) where
   abbrev Gos : List Act → ℕ → Standing → Names → Made → World → Type 0
-  Gos own number h names under w = Goes types owner permits laws key loose result below base fs sizes size running own
+  Gos own number h names under w = Goes types owner permits ways laws key loose result below base fs sizes size
+      running own
       number h names under w
 
   abbrev Ending : List Act → (kept next : ℕ) → Names → (Standing → Type 0) → (Names → Type 0) → Made → Flow → World
       → Type 0
   Ending own kept next before A R under flow w =
-      Ends types owner permits laws key loose result below base fs sizes size running own kept next before A R under
+      Ends types owner permits ways laws key loose result below base fs sizes size running own kept next before A R
+      under
       flow w
 
   -- each name is empty, or it is fine
@@ -150,17 +152,18 @@ module _ (types : Types) (owner : ClosedType → Option (List ℕ)) {V W : Type 
       → IsFine types loose permits key number t → R (put number t names)
       → Steps see loose scope e h (λ g. A (put number forest.ready g)) → number + 1 ≤ size
       → Gos own number h names under w
-      → GoodHeld types owner permits (Ending own number (number + 1) names A R under)
+      → GoodHeld types owner permits (key ∷ ways) (Ending own number (number + 1) names A R under)
       ((whole see invoke scope e >>= (λ v. tick (holds number v >> pure falls))) w ticks)
   declare_safe number scope e t own A R h names under w ticks fits fine says steps room going =
       let g = after_whole see loose scope e h in
       let q = Ending own number (number + 1) names A R under in
       good_then owner _ (λ (v : Value) n. Gos own number (after_whole see loose scope e h) names ((v, t) ∷ under) n) q
       (whole see invoke scope e w ticks) (λ v. tick (holds number v >> pure falls))
-      (value_safe types owner permits laws key loose result below base fs sizes size running see known invoke calls_safe
+      (value_safe types owner permits ways laws key loose result below base fs sizes size running see known invoke
+      calls_safe
       waiting t scope e own number h names under w ticks fits steps.0 going)
       (λ v n left going2.
-      ticks_on types owner permits laws key loose result below base fs sizes size running waiting q
+      ticks_on types owner permits ways laws key loose result below base fs sizes size running waiting q
       (holds number v >> pure falls) own number (after_whole see loose scope e h) names ((v, t) ∷ under) n left going2
       (λ more. good_falls owner _ q (with_value number (Some v)) n more (record {
         hold = put number forest.ready (after_whole see loose scope e h);
@@ -179,7 +182,7 @@ module _ (types : Types) (owner : ClosedType → Option (List ℕ)) {V W : Type 
       (names : Names)
       (parts under : Made) (n : World) (left : ℕ) → types_made parts ≡ kinds → number + length binds ≤ size
       → Gos own number h names (onto parts under) n
-      → GoodHeld types owner permits
+      → GoodHeld types owner permits (key ∷ ways)
       (λ (u : Unit {0}) m. Gos own (number + length binds) (put_each number (length binds) forest.ready h)
       (with_types number bound.bound names) under m) (binds_fields number binds (Some fields) (values_of parts) n left)
   binds_good own number binds fields kinds bound h names parts under n left same room going =

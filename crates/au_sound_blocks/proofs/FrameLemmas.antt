@@ -19,7 +19,8 @@ pub put_other : {A : Type 0} (n k : ℕ) (a : A) (all : ℕ → A) → (n ≡ k 
 put_other n k a all other = ap (λ (b : Bool). if b then a else all k) (ne_eqb n k other)
 
 -- what holds of the one and of the others
-pub put_each_way : {A : Type 0} (P : A → Type 0) (n k : ℕ) (a : A) (all : ℕ → A) → (n ≡ k → P a) → ((n ≡ k → ⊥) → P (all k))
+pub put_each_way : {A : Type 0} (P : A → Type 0) (n k : ℕ) (a : A) (all : ℕ → A) → (n ≡ k → P a)
+    → ((n ≡ k → ⊥) → P (all k))
     → P (put n a all k)
 put_each_way P n k a all own other = by (n == k) refl
   where

@@ -79,19 +79,21 @@ good_puts owner cuts q x path v w ticks good =
     put_keeps owner cuts q (along (reference_held x w) (λ one. Some (reference_along one path))) v w ticks good
 
 module _ (types : Types) (owner : ClosedType → Option (List ℕ)) {V W : Type 0} (permits : Permits V W)
-    (laws : StepsAreSafe types owner) (key : V) (loose : ℕ → Bool)
+    (ways : List V) (laws : StepsAreSafe types owner) (key : V) (loose : ℕ → Bool)
     (result : Meaning) (below : List Act) (base : Lying) (fs : List Frame) (sizes : List ℕ) (size : ℕ)
     (running : IsRunning sizes fs size) {I T C K : Type 0} (see : View I T C) (known : Callables I K)
-    (invoke : I → List Value → Action Value) (calls_safe : CallsSafe types owner permits known invoke)
-    (waiting : AllWait permits (is_active below) fs) where
+    (invoke : I → List Value → Action Value) (calls_safe : CallsSafe types owner permits (key ∷ ways) known invoke)
+    (waiting : AllWait permits ways (is_active below) fs) where
   abbrev Gos : List Act → ℕ → Standing → Names → Made → World → Type 0
-  Gos own number h names under w = Goes types owner permits laws key loose result below base fs sizes size running own
+  Gos own number h names under w = Goes types owner permits ways laws key loose result below base fs sizes size
+      running own
       number h names under w
 
   abbrev Ending : List Act → (kept next : ℕ) → Names → (Standing → Type 0) → (Names → Type 0) → Made → Flow → World
       → Type 0
   Ending own kept next before A R under flow w =
-      Ends types owner permits laws key loose result below base fs sizes size running own kept next before A R under
+      Ends types owner permits ways laws key loose result below base fs sizes size running own kept next before A R
+      under
       flow w
 
   -- ---- a value is dropped
@@ -112,23 +114,24 @@ module _ (types : Types) (owner : ClosedType → Option (List ℕ)) {V W : Type 
       → ((z : ℕ) → is_active (own ++ below) z ≡ false → (of : Meaning)
       × IsOf types owner see known names z (with_token z (is_active (own ++ below))) scope e of × MayDrop types of)
       → R names → Steps see loose scope e h A → Gos own number h names under w
-      → GoodHeld types owner permits (Ending own number number names A R under)
+      → GoodHeld types owner permits (key ∷ ways) (Ending own number number names A R under)
       ((whole see invoke scope e >>= (λ v. tick (pure falls))) w ticks)
   discard_safe number scope e own A R h names under w ticks fits says steps going =
       let q = Ending own number number names A R under in
       good_then owner _
-      (Valued types owner permits laws key loose result below base fs sizes size running own number (MayDrop types)
+      (Valued types owner permits ways laws key loose result below base fs sizes size running own number (MayDrop types)
       (after_whole see loose scope e h) names under) q (whole see invoke scope e w ticks) (λ v. tick (pure falls))
-      (values_safe types owner permits laws key loose result below base fs sizes size running see known invoke
+      (values_safe types owner permits ways laws key loose result below base fs sizes size running see known invoke
       calls_safe waiting (MayDrop types) scope e own number h names under w ticks
       (λ z off. let fit = fits z off in (fit.0, fit.2, fit.1)) steps.0 going)
       (λ v n left valued.
-      ticks_on types owner permits laws key loose result below base fs sizes size running waiting q (pure falls) own
+      ticks_on types owner permits ways laws key loose result below base fs sizes size running waiting q (pure falls)
+      own
       number (after_whole see loose scope e h) names ((v, valued.of) ∷ under) n left valued.going
       (λ more.
-      falls_on types owner permits laws key loose result below base fs sizes size running own number number
+      falls_on types owner permits ways laws key loose result below base fs sizes size running own number number
       (after_whole see loose scope e h) names A R under n steps.1 says
-      (goes_with types owner permits laws key loose result below base fs sizes size running own number
+      (goes_with types owner permits ways laws key loose result below base fs sizes size running own number
       (after_whole see loose scope e h) names ((v, valued.of) ∷ under) under n n refl
       (laws.dropped (own ++ below) (frame (after_whole see loose scope e h) names ∷ fs) sizes under n laws.actions.typed
       v valued.of
@@ -142,25 +145,26 @@ module _ (types : Types) (owner : ClosedType → Option (List ℕ)) {V W : Type 
       → IsWholeOf types owner see known result loose permits key (is_active (own ++ below)) names scope e result
       → Steps see loose scope e h (λ g. (k : ℕ) → IsOver (loose k) (freed_each (tokens own) (g k))) → number ≤ size
       → Gos own number h names under w
-      → GoodHeld types owner permits (Ending own number number names A R under)
+      → GoodHeld types owner permits (key ∷ ways) (Ending own number number names A R under)
       ((eval see invoke scope e >>= (λ v. tick (pure (returns v)))) w ticks)
   return_safe number scope e own A R h names under w ticks fits steps room going =
       let begun = laws.actions.begun (own ++ below) (frame h names ∷ fs) sizes under w going.state in
       let a : Act = record { token = begun.0; base = lying_in w } in
       let q = Ending own number number names A R under in
       good_then owner _
-      (λ (v : Value) n. After types owner permits (a ∷ (own ++ below)) names fs sizes a.token h
+      (λ (v : Value) n. After types owner permits key (a ∷ (own ++ below)) names fs sizes a.token h
       (λ k. (uses see k scope e).consumed) (λ k. unmentioned) ((v, result) ∷ under) n) q (eval see invoke scope e w
       ticks) (λ v. tick (pure (returns v)))
-      (eval_safe types owner permits laws.actions a (own ++ below) names fs sizes size running
-      (all_held permits (is_active below) fs waiting) see known invoke calls_safe
-      (all_more permits (is_active below) (is_active (a ∷ (own ++ below)))
+      (eval_safe types owner permits key ways laws.actions a (own ++ below) names fs sizes size running
+      (all_held permits ways (is_active below) fs waiting) see known invoke calls_safe
+      (all_more permits ways (is_active below) (is_active (a ∷ (own ++ below)))
       (λ z is. active_more a (own ++ below) z (more_active own below z is)) fs waiting) scope e result
       (fits begun.0 begun.1) (λ k. unmentioned) h under w ticks
       (λ k. subst (λ n. Ready (stand (h k)) n) (sym (plus_nothing (uses see k scope e))) (steps.0 k)) (
         λ k. waits_more (is_active (own ++ below)) (is_active (a ∷ (own ++ below))) (active_more a (own ++ below)) (h k)
             (going.waits k),
-        (stands types owner permits laws key loose result below base fs sizes size running own number h names under w
+        (stands types owner permits ways laws key loose result below base fs sizes size running own number h names
+            under w
             going).1,
       ) begun.2)
       (λ v n left after.
@@ -172,7 +176,8 @@ module _ (types : Types) (owner : ClosedType → Option (List ℕ)) {V W : Type 
         bottom = going.bottom;
         state = after.state;
       } in
-      ticks_on types owner permits laws key loose result below base fs sizes size running waiting q (pure (returns v))
+      ticks_on types owner permits ways laws key loose result below base fs sizes size running waiting q
+      (pure (returns v))
       (a ∷ own) size after.hold names ((v, result) ∷ under) n left gone
       (λ more. record {
         newest = a;

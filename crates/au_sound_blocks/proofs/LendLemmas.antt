@@ -45,19 +45,21 @@ use Rattle.au_sound_blocks.proofs.LoopLemmas.{good_lending}
 use Rattle.au_sound_expressions.specs.Held.{GoodHeld, IsCutSo, Permits}
 
 module _ (types : Types) (owner : ClosedType → Option (List ℕ)) {V W : Type 0} (permits : Permits V W)
-    (laws : StepsAreSafe types owner) (key : V) (loose : ℕ → Bool)
+    (ways : List V) (laws : StepsAreSafe types owner) (key : V) (loose : ℕ → Bool)
     (result : Meaning) (below : List Act) (base : Lying) (fs : List Frame) (sizes : List ℕ) (size : ℕ)
     (running : IsRunning sizes fs size) {I T C K : Type 0} (see : View I T C) (known : Callables I K)
-    (invoke : I → List Value → Action Value) (calls_safe : CallsSafe types owner permits known invoke)
-    (waiting : AllWait permits (is_active below) fs) where
+    (invoke : I → List Value → Action Value) (calls_safe : CallsSafe types owner permits (key ∷ ways) known invoke)
+    (waiting : AllWait permits ways (is_active below) fs) where
   abbrev Gos : List Act → ℕ → Standing → Names → Made → World → Type 0
-  Gos own number h names under w = Goes types owner permits laws key loose result below base fs sizes size running own
+  Gos own number h names under w = Goes types owner permits ways laws key loose result below base fs sizes size
+      running own
       number h names under w
 
   abbrev Ending : List Act → (kept next : ℕ) → Names → (Standing → Type 0) → (Names → Type 0) → Made → Flow → World
       → Type 0
   Ending own kept next before A R under flow w =
-      Ends types owner permits laws key loose result below base fs sizes size running own kept next before A R under
+      Ends types owner permits ways laws key loose result below base fs sizes size running own kept next before A R
+      under
       flow w
 
   -- ---- a variable is lent
@@ -131,11 +133,11 @@ module _ (types : Types) (owner : ClosedType → Option (List ℕ)) {V W : Type 
       → S before
       → Fell types owner permits key loose result below base fs sizes size (a ∷ own) number number before
       (λ f. A (λ k. freed a.token (f k))) (λ ns. ns ≡ before) under n
-      → GoodHeld types owner permits (Ending own number number before A S under)
+      → GoodHeld types owner permits (key ∷ ways) (Ending own number number before A S under)
       (tick (does (closed_to count) >> pure falls) n left)
   closed_on a own number names before A R S under count n left is off says fell =
       let z = a.token in
-      ticks_on types owner permits laws key loose result below base fs sizes size running waiting
+      ticks_on types owner permits ways laws key loose result below base fs sizes size running waiting
       (Ending own number number before A S under) (does (closed_to count) >> pure falls) (a ∷ own) number fell.hold
       fell.names under n left fell.going (λ more. good_falls owner _ (Ending own number number before A S under)
       (closed_to count) n more (record {
@@ -155,8 +157,9 @@ module _ (types : Types) (owner : ClosedType → Option (List ℕ)) {V W : Type 
                   (own ++ below) refl fell.going.state)) fell.going.bottom;
               state = subst (λ (gs : List Frame). IsIn types owner (own ++ below)
                   (frame (λ k. freed a.token (fell.hold k)) fell.names ∷ gs) sizes under (closed_to (length a.base) n))
-                  (frames_stay permits (is_active (own ++ below)) a.token fs
-                  (all_more permits (is_active below) (is_active (own ++ below)) (more_active own below) fs waiting)
+                  (frames_stay permits ways (is_active (own ++ below)) a.token fs
+                  (all_more permits ways (is_active below) (is_active (own ++ below)) (more_active own below) fs
+                  waiting)
                   off) (laws.actions.ended (a ∷ (own ++ below)) (frame fell.hold fell.names ∷ fs) sizes under n a
                   (own ++ below) refl fell.going.state);
             }));
@@ -178,11 +181,12 @@ module _ (types : Types) (owner : ClosedType → Option (List ℕ)) {V W : Type 
       × IsFine types loose permits key number of
       × ((n : World) (left : ℕ) → ((k : ℕ) → freed a.token (h k) ≡ h k)
       → Gos (a ∷ own) (number + 1) (put number forest.ready (lending m a.token o h)) (put number of names) under n
-      → GoodHeld types owner permits (Ending (a ∷ own) number number names (λ f. A (λ k. freed a.token (f k)))
+      → GoodHeld types owner permits (key ∷ ways) (Ending (a ∷ own) number number names
+      (λ f. A (λ k. freed a.token (f k)))
       (λ ns. ns ≡ names) under)
       (block n left)))
       → Gos own number h names under w
-      → GoodHeld types owner permits (Ending own number number names A S under)
+      → GoodHeld types owner permits (key ∷ ways) (Ending own number number names A S under)
       (statement.lending (binds_borrow number m o) block w ticks)
   borrow_in_safe m None number own A S h names under w ticks block met says room fits going =
       let begun = laws.actions.begun (own ++ below) (frame h names ∷ fs) sizes under w going.state in
@@ -208,7 +212,7 @@ module _ (types : Types) (owner : ClosedType → Option (List ℕ)) {V W : Type 
       (λ (u : Unit {0}) n. Gos (a ∷ own) (number + 1) (put number forest.ready (lending m a.token (Some x) h))
       (put number fit.0 names) under n) q (tick (binds_borrow number m (Some x)) w ticks)
       (λ u. block >>= and_then (tick (does (closed_to (length w.borrows)) >> pure falls)))
-      (ticks_on types owner permits laws key loose result below base fs sizes size running waiting
+      (ticks_on types owner permits ways laws key loose result below base fs sizes size running waiting
       (λ (u : Unit {0}) n. Gos (a ∷ own) (number + 1) (put number forest.ready (lending m a.token (Some x) h))
       (put number fit.0 names) under n) (binds_borrow number m (Some x)) (a ∷ own) number h names under w ticks started
       (λ left.
@@ -217,16 +221,18 @@ module _ (types : Types) (owner : ClosedType → Option (List ℕ)) {V W : Type 
       ((v, fit.0) ∷ under) n)
       (λ (u : Unit {0}) n. Gos (a ∷ own) (number + 1) (put number forest.ready (lending m a.token (Some x) h))
       (put number fit.0 names) under n) (lends m x.number w left) (holds number)
-      (good_uncut owner (IsCutSo types owner permits)
+      (good_uncut owner (IsCutSo types owner permits (key ∷ ways))
       (λ (v : Value) n. IsIn types owner (a ∷ (own ++ below)) (frame (lending m a.token (Some x) h) names ∷ fs) sizes
       ((v, fit.0) ∷ under) n) (lends m x.number w left)
       (lent_good m x a (own ++ below) fit.0 h names under w left is met fit.1 begun.2))
       (λ v n more state.
-      held_on types owner permits laws key loose result below base fs sizes size running see known invoke calls_safe
+      held_on types owner permits ways laws key loose result below base fs sizes size running see known invoke
+      calls_safe
       waiting (a ∷ own) number fit.0 (lending m a.token (Some x) h) names under v n room fit.2
       (lent_on a (fit.0) v n is begun.1 going.bottom started.waits state))))
       (λ u n left on.
-      ends_then types owner permits laws key loose result below base fs sizes size running (a ∷ own) own number number
+      ends_then types owner permits ways laws key loose result below base fs sizes size running (a ∷ own) own number
+      number
       number number names names (λ f. A (λ k. freed a.token (f k))) A (λ ns. ns ≡ names) S under block
       (tick (does (closed_to (length w.borrows)) >> pure falls)) n left
       (fit.3 n left (λ k. fresh (is_active (own ++ below)) a.token (h k) (going.waits k) begun.1) on)

@@ -60,29 +60,32 @@ either_safe owner cuts q true X Y one two w ticks fits goes_one goes_two = goes_
 either_safe owner cuts q false X Y one two w ticks fits goes_one goes_two = goes_two fits
 
 module _ (types : Types) (owner : ClosedType → Option (List ℕ)) {V W : Type 0} (permits : Permits V W)
-    (laws : StepsAreSafe types owner) (key : V) (loose : ℕ → Bool)
+    (ways : List V) (laws : StepsAreSafe types owner) (key : V) (loose : ℕ → Bool)
     (result : Meaning) (below : List Act) (base : Lying) (fs : List Frame) (sizes : List ℕ) (size : ℕ)
     (running : IsRunning sizes fs size) {I T C K : Type 0} (see : View I T C) (known : Callables I K)
-    (invoke : I → List Value → Action Value) (calls_safe : CallsSafe types owner permits known invoke)
-    (waiting : AllWait permits (is_active below) fs) (depth : ℕ) where
+    (invoke : I → List Value → Action Value) (calls_safe : CallsSafe types owner permits (key ∷ ways) known invoke)
+    (waiting : AllWait permits ways (is_active below) fs) (depth : ℕ) where
   abbrev Gos : List Act → ℕ → Standing → Names → Made → World → Type 0
-  Gos own number h names under w = Goes types owner permits laws key loose result below base fs sizes size running own
+  Gos own number h names under w = Goes types owner permits ways laws key loose result below base fs sizes size
+      running own
       number h names under w
 
   abbrev Ending : List Act → (kept next : ℕ) → Names → (Standing → Type 0) → (Names → Type 0) → Made → Flow → World
       → Type 0
   Ending own kept next before A R under flow w =
-      Ends types owner permits laws key loose result below base fs sizes size running own kept next before A R under
+      Ends types owner permits ways laws key loose result below base fs sizes size running own kept next before A R
+      under
       flow w
 
   -- a statement that ends so ends where more names are empty, and fewer kept
   weaker : (own : List Act) (kept less next later : ℕ) (names : Names) (A : Standing → Type 0) (R : Names → Type 0)
       (under : Made) (m : Action Flow) (w : World) (ticks : ℕ) → less ≤ kept → next ≤ later
-      → GoodHeld types owner permits (Ending own kept next names A R under) (m w ticks)
-      → GoodHeld types owner permits (Ending own less later names A R under) (m w ticks)
+      → GoodHeld types owner permits (key ∷ ways) (Ending own kept next names A R under) (m w ticks)
+      → GoodHeld types owner permits (key ∷ ways) (Ending own less later names A R under) (m w ticks)
   weaker own kept less next later names A R under m w ticks fewer more good =
       good_so owner _ (Ending own kept next names A R under) (Ending own less later names A R under) (m w ticks)
-      (λ flow n ended. ends_based types owner permits laws key loose result below base fs sizes size running see known
+      (λ flow n ended. ends_based types owner permits ways laws key loose result below base fs sizes size running see
+      known
       invoke calls_safe waiting own kept less next later names names A R R under flow n fewer more (λ k below_it. refl)
       (λ ns says. says) ended) good
 
@@ -90,12 +93,13 @@ module _ (types : Types) (owner : ClosedType → Option (List ℕ)) {V W : Type 
   rebased : (own : List Act) (kept less next later : ℕ) (before others : Names) (A : Standing → Type 0) (under : Made)
       (m : Action Flow) (w : World) (ticks : ℕ) → less ≤ kept → next ≤ later
       → ((k : ℕ) → k < less → before k ≡ others k)
-      → GoodHeld types owner permits (Ending own kept next before A (λ ns. Unit {0}) under) (m w ticks)
-      → GoodHeld types owner permits (Ending own less later others A (λ ns. Unit {0}) under) (m w ticks)
+      → GoodHeld types owner permits (key ∷ ways) (Ending own kept next before A (λ ns. Unit {0}) under) (m w ticks)
+      → GoodHeld types owner permits (key ∷ ways) (Ending own less later others A (λ ns. Unit {0}) under) (m w ticks)
   rebased own kept less next later before others A under m w ticks fewer more same good =
       good_so owner _ (Ending own kept next before A (λ ns. Unit {0}) under)
       (Ending own less later others A (λ ns. Unit {0}) under) (m w ticks)
-      (λ flow n ended. ends_based types owner permits laws key loose result below base fs sizes size running see known
+      (λ flow n ended. ends_based types owner permits ways laws key loose result below base fs sizes size running see
+      known
       invoke calls_safe waiting own kept less next later before others A (λ ns. Unit {0}) (λ ns. Unit {0}) under flow n
       fewer more same (λ ns u. tt) ended) good
 
@@ -107,7 +111,8 @@ module _ (types : Types) (owner : ClosedType → Option (List ℕ)) {V W : Type 
       (w : World) (ticks : ℕ) → AheadAll see loose number scope (tokens own) block A h
       → RunsAll types owner see known result loose permits key (is_active (own ++ below)) number scope block names
       → number + names_in_block block ≤ size → Gos own number h names under w
-      → GoodHeld types owner permits (Ending own number (number + names_in_block block) names A (λ ns. Unit {0}) under)
+      → GoodHeld types owner permits (key ∷ ways) (Ending own number (number + names_in_block block) names A
+      (λ ns. Unit {0}) under)
       (run_all see invoke depth number scope block w ticks)
 
   -- So is a block of them, whose names are emptied.
@@ -116,10 +121,10 @@ module _ (types : Types) (owner : ClosedType → Option (List ℕ)) {V W : Type 
       → AheadAll see loose number scope (tokens own) block (Over see loose number (names_in_block block) A) h
       → RunsAll types owner see known result loose permits key (is_active (own ++ below)) number scope block names
       → number + names_in_block block ≤ size → S names → Gos own number h names under w
-      → GoodHeld types owner permits (Ending own number number names A S under)
+      → GoodHeld types owner permits (key ∷ ways) (Ending own number number names A S under)
       (emptying see number block (run_all see invoke depth number scope block) w ticks)
   block_safe block safe number scope own A S h names under w ticks ahead runs room says going =
-      within_safe types owner permits laws key loose result below base fs sizes size running own number
+      within_safe types owner permits ways laws key loose result below base fs sizes size running own number
       (names_in_block block) names A (λ ns. Unit {0}) S under (run_all see invoke depth number scope block) w ticks room
       says (safe number scope own (Over see loose number (names_in_block block) A) h names under w ticks ahead runs room
       going)
@@ -133,7 +138,7 @@ module _ (types : Types) (owner : ClosedType → Option (List ℕ)) {V W : Type 
       → RunsAll types owner see known result loose permits key (is_active (own ++ below)) (number + 1) scope block
       (put number t names)
       → number + (1 + names_in_block block) ≤ size → S names → Gos own (number + 1) h (put number t names) under w
-      → GoodHeld types owner permits
+      → GoodHeld types owner permits (key ∷ ways)
       (Ending own number (number + (1 + names_in_block block)) names
       (Over see loose number (1 + names_in_block block) A) (λ ns. Unit {0}) under)
       (run_all see invoke depth (number + 1) scope block w ticks)
@@ -154,11 +159,11 @@ module _ (types : Types) (owner : ClosedType → Option (List ℕ)) {V W : Type 
       → Lends types owner see known result loose permits key (is_active (own ++ below)) number m o names
       (λ more ns. RunsAll types owner see known result loose permits key more (number + 1) scope block ns)
       → number + (1 + names_in_block block) ≤ size → S names → Gos own number h names under w
-      → GoodHeld types owner permits (Ending own number number names A S under)
+      → GoodHeld types owner permits (key ∷ ways) (Ending own number number names A S under)
       (statement.lending (binds_borrow number m o)
       (within number (1 + names_in_block block) (run_all see invoke depth (number + 1) scope block)) w ticks)
   lent_safe block safe m o number scope own A S h names under w ticks ahead runs room says going =
-      borrow_in_safe types owner permits laws key loose result below base fs sizes size running see known invoke
+      borrow_in_safe types owner permits ways laws key loose result below base fs sizes size running see known invoke
       calls_safe waiting m o number own A S h names under w ticks
       (within number (1 + names_in_block block) (run_all see invoke depth (number + 1) scope block)) ahead.0 says
       (omega arith)
@@ -168,7 +173,7 @@ module _ (types : Types) (owner : ClosedType → Option (List ℕ)) {V W : Type 
         fit.1,
         fit.2,
         λ n left new on.
-            within_safe types owner permits laws key loose result below base fs sizes size running (a ∷ own) number
+            within_safe types owner permits ways laws key loose result below base fs sizes size running (a ∷ own) number
             (1 + names_in_block block) names (λ f. A (λ k. freed a.token (f k))) (λ ns. Unit {0}) (λ ns. ns ≡ names)
             under (run_all see invoke depth (number + 1) scope block) n left room refl
             (behind_safe block safe number scope (a ∷ own) (λ f. A (λ k. freed a.token (f k))) (λ ns. ns ≡ names)
@@ -186,16 +191,17 @@ module _ (types : Types) (owner : ClosedType → Option (List ℕ)) {V W : Type 
       (put number (integer kind) names)
       → IsFine types loose permits key number (integer kind) → number + (1 + names_in_block block) ≤ size
       → IsPlain (values.number kind z) (integer kind) → Gos own number h names under w
-      → GoodHeld types owner permits (Ending own number number names (λ d. (k : ℕ) → d k ≡ h k)
+      → GoodHeld types owner permits (key ∷ ways) (Ending own number number names (λ d. (k : ℕ) → d k ≡ h k)
       (λ ns. ns ≡ names) under)
       (within number (1 + names_in_block block)
       (holds number (values.number kind z) >> run_all see invoke depth (number + 1) scope block) w ticks)
   turn_safe block safe number scope kind own h names under z w ticks ahead runs fine room plain going =
-      let counted = goes_with types owner permits laws key loose result below base fs sizes size running own number h
+      let counted = goes_with types owner permits ways laws key loose result below base fs sizes size running own
+      number h
       names under ((values.number kind z, integer kind) ∷ under) w w refl
       (laws.actions.plain (own ++ below) (frame h names ∷ fs) sizes under w (values.number kind z) (integer kind) plain
       going.state) going in
-      within_safe types owner permits laws key loose result below base fs sizes size running own number
+      within_safe types owner permits ways laws key loose result below base fs sizes size running own number
       (1 + names_in_block block) names (λ d. (k : ℕ) → d k ≡ h k) (λ ns. Unit {0}) (λ ns. ns ≡ names) under
       (holds number (values.number kind z) >> run_all see invoke depth (number + 1) scope block) w ticks room refl
       (good_does owner _
@@ -204,7 +210,8 @@ module _ (types : Types) (owner : ClosedType → Option (List ℕ)) {V W : Type 
       (with_value number (Some (values.number kind z))) (run_all see invoke depth (number + 1) scope block) w ticks
       (behind_safe block safe number scope own (λ d. (k : ℕ) → d k ≡ h k) (λ ns. ns ≡ names) (put number forest.ready h)
       names (integer kind) under (with_value number (Some (values.number kind z)) w) ticks ahead runs room refl
-      (held_on types owner permits laws key loose result below base fs sizes size running see known invoke calls_safe
+      (held_on types owner permits ways laws key loose result below base fs sizes size running see known invoke
+      calls_safe
       waiting own number (integer kind) h names under (values.number kind z) w (omega arith) fine counted)))
 
   mutual
@@ -213,37 +220,40 @@ module _ (types : Types) (owner : ClosedType → Option (List ℕ)) {V W : Type 
         → Ahead see loose number scope (tokens own) s A h
         → Runs types owner see known result loose permits key (is_active (own ++ below)) number scope s R names
         → number + names_in s ≤ size → Gos own number h names under w
-        → GoodHeld types owner permits (Ending own number (number + names_in s) names A R under)
+        → GoodHeld types owner permits (key ∷ ways) (Ending own number (number + names_in s) names A R under)
         (run see invoke depth number scope s w ticks)
     run_safe (skip at) number scope own A R h names under w ticks ahead runs room going =
-        falls_on types owner permits laws key loose result below base fs sizes size running own number (number + 0) h
+        falls_on types owner permits ways laws key loose result below base fs sizes size running own number
+        (number + 0) h
         names A R under w ahead runs
-        (goes_later types owner permits laws key loose result below base fs sizes size running own number (number + 0) h
+        (goes_later types owner permits ways laws key loose result below base fs sizes size running own number
+        (number + 0) h
         names under w (omega arith) going)
     run_safe (declare at binding x t e) number scope own A R h names under w ticks ahead runs room going =
-        declare_safe types owner permits laws key loose result below base fs sizes size running see known invoke
+        declare_safe types owner permits ways laws key loose result below base fs sizes size running see known invoke
         calls_safe waiting number scope e runs.0 own A R h names under w ticks runs.1 runs.2 runs.3 ahead room going
     run_safe (destructure at binds e) number scope own A R h names under w ticks ahead runs room going =
-        destructure_safe types owner permits laws key loose result below base fs sizes size running see known invoke
+        destructure_safe types owner permits ways laws key loose result below base fs sizes size running see known
+        invoke
         calls_safe waiting number scope e binds own A R h names under w ticks runs.0 runs.1 runs.3 runs.2 runs.4.0
         runs.4.1 ahead room going
     run_safe (assign at x fields e) number scope own A R h names under w ticks ahead runs room going =
         weaker own number number number (number + 0) names A R under
         (run see invoke depth number scope (assign at x fields e)) w ticks (omega arith) (omega arith)
-        (assign_safe types owner permits laws key loose result below base fs sizes size running see known invoke
+        (assign_safe types owner permits ways laws key loose result below base fs sizes size running see known invoke
         calls_safe waiting number scope e (variable_of scope x.name) (names_of fields) own A R h names under w ticks
         runs.0 runs.1 runs.2 runs.3 ahead going)
     run_safe (assign_through at r fields e) number scope own A R h names under w ticks ahead runs room going =
         weaker own number number number (number + 0) names A R under
         (run see invoke depth number scope (assign_through at r fields e)) w ticks (omega arith) (omega arith)
-        (through_safe types owner permits laws key loose result below base fs sizes size running see known invoke
+        (through_safe types owner permits ways laws key loose result below base fs sizes size running see known invoke
         calls_safe waiting number scope e (variable_of scope r.name) (names_of fields) own A R h names under w ticks
         runs.0 runs.1 runs.2 runs.3 runs.4 runs.5 ahead going)
     run_safe (conditional at tests) number scope own A R h names under w ticks ahead runs room going =
         tests_safe tests number scope own A A R h names under w ticks (pure falls) number (number + names_in_tests
         tests) (omega arith) room (omega arith) runs.1
         (λ g n left other on.
-        falls_on types owner permits laws key loose result below base fs sizes size running own number
+        falls_on types owner permits ways laws key loose result below base fs sizes size running own number
         (number + names_in_tests tests) g names A R under n other runs.1 on)
         ahead runs.0 going
     run_safe (conditional_else at tests block) number scope own A R h names under w ticks ahead runs room going =
@@ -262,7 +272,8 @@ module _ (types : Types) (owner : ClosedType → Option (List ℕ)) {V W : Type 
         runs.1 (omega arith) runs.2 on))
         ahead runs.0 going
     run_safe (case_of at e all) number scope own A R h names under w ticks ahead runs room going =
-        case_safe types owner permits laws key loose result below base fs sizes size running see known invoke calls_safe
+        case_safe types owner permits ways laws key loose result below base fs sizes size running see known invoke
+        calls_safe
         waiting number (number + names_in_arms all) scope e own A R h names under w ticks runs.0 runs.1 runs.2 runs.3
         (run_arms see invoke depth number scope (note_of e) all) runs.4 runs.5 runs.6 ahead.0
         (λ tag ts parts n left fields typed on.
@@ -272,7 +283,7 @@ module _ (types : Types) (owner : ClosedType → Option (List ℕ)) {V W : Type 
     run_safe (while_loop at e block) number scope own A R h names under w ticks ahead runs room going =
         weaker own number number number (number + names_in_block block) names A R under
         (run see invoke depth number scope (while_loop at e block)) w ticks (omega arith) (omega arith)
-        (while_safe types owner permits laws key loose result below base fs sizes size running see known invoke
+        (while_safe types owner permits ways laws key loose result below base fs sizes size running see known invoke
         calls_safe waiting (suc depth) number scope e own A R h names under w ticks
         (emptying see number block (run_all see invoke depth number scope block)) runs.0 ahead.0 ahead.1.0 ahead.1.2
         runs.2 (λ n left on.
@@ -281,7 +292,8 @@ module _ (types : Types) (owner : ClosedType → Option (List ℕ)) {V W : Type 
     run_safe (for_loop at name one two block) number scope own A R h names under w ticks ahead runs room going =
         weaker own number number number (number + (1 + names_in_block block)) names A R under
         (run see invoke depth number scope (for_loop at name one two block)) w ticks (omega arith) (omega arith)
-        (for_safe types owner permits laws key loose result below base fs sizes size running see known invoke calls_safe
+        (for_safe types owner permits ways laws key loose result below base fs sizes size running see known invoke
+        calls_safe
         waiting (suc depth) number scope one two runs.0 own A R h names under w ticks
         (λ kind z. within number (1 + names_in_block block)
         (holds number (values.number kind z)
@@ -307,22 +319,24 @@ module _ (types : Types) (owner : ClosedType → Option (List ℕ)) {V W : Type 
     run_safe (discard at e) number scope own A R h names under w ticks ahead runs room going =
         weaker own number number number (number + 0) names A R under (run see invoke depth number scope (discard at e))
         w ticks (omega arith) (omega arith)
-        (discard_safe types owner permits laws key loose result below base fs sizes size running see known invoke
+        (discard_safe types owner permits ways laws key loose result below base fs sizes size running see known invoke
         calls_safe waiting number scope e own A R h names under w ticks runs.0 runs.1 ahead going)
     run_safe (return_of at e) number scope own A R h names under w ticks ahead runs room going =
         weaker own number number number (number + 0) names A R under (run see invoke depth number scope
         (return_of at e)) w ticks (omega arith) (omega arith)
-        (return_safe types owner permits laws key loose result below base fs sizes size running see known invoke
+        (return_safe types owner permits ways laws key loose result below base fs sizes size running see known invoke
         calls_safe waiting number scope e own A R h names under w ticks runs ahead (omega arith) going)
 
     pub all_safe : (block : Statements Bytes T C) → AllSafe block
     all_safe no_statements number scope own A h names under w ticks ahead runs room going =
-        falls_on types owner permits laws key loose result below base fs sizes size running own number (number + 0) h
+        falls_on types owner permits ways laws key loose result below base fs sizes size running own number
+        (number + 0) h
         names A (λ ns. Unit {0}) under w ahead tt
-        (goes_later types owner permits laws key loose result below base fs sizes size running own number (number + 0) h
+        (goes_later types owner permits ways laws key loose result below base fs sizes size running own number
+        (number + 0) h
         names under w (omega arith) going)
     all_safe (statements s rest) number scope own A h names under w ticks ahead runs room going =
-        ends_then types owner permits laws key loose result below base fs sizes size running own own number
+        ends_then types owner permits ways laws key loose result below base fs sizes size running own own number
         (number + names_in s) number (number + (names_in s + names_in_block rest)) names names
         (λ g. AheadAll see loose (number + names_in s) (after see number s scope) (tokens own) rest A g) A
         (λ more. RunsAll types owner see known result loose permits key (is_active (own ++ below)) (number + names_in s)
@@ -345,20 +359,22 @@ module _ (types : Types) (owner : ClosedType → Option (List ℕ)) {V W : Type 
         (ticks : ℕ) (last : Action Flow) (kept next : ℕ) → kept ≤ number → number + names_in_tests tests ≤ size
         → number + names_in_tests tests ≤ next → S names
         → ((g : Standing) (n : World) (left : ℕ) → other g → Gos own (number + names_in_tests tests) g names under n
-        → GoodHeld types owner permits (Ending own kept next names A S under) (last n left))
+        → GoodHeld types owner permits (key ∷ ways) (Ending own kept next names A S under) (last n left))
         → AheadTests see loose number scope (tokens own) tests other A h
         → RunsTests types owner see known result loose permits key (is_active (own ++ below)) number scope tests names
         → Gos own number h names under w
-        → GoodHeld types owner permits (Ending own kept next names A S under)
+        → GoodHeld types owner permits (key ∷ ways) (Ending own kept next names A S under)
         (run_tests see invoke depth number scope tests last w ticks)
     tests_safe no_branches number scope own other A S h names under w ticks last kept next fewer room more says safe
         ahead runs going =
         safe h w ticks ahead
-        (goes_later types owner permits laws key loose result below base fs sizes size running own number (number + 0) h
+        (goes_later types owner permits ways laws key loose result below base fs sizes size running own number
+        (number + 0) h
         names under w (omega arith) going)
     tests_safe (branches e block rest) number scope own other A S h names under w ticks last kept next fewer room more
         says safe ahead runs going =
-        test_safe types owner permits laws key loose result below base fs sizes size running see known invoke calls_safe
+        test_safe types owner permits ways laws key loose result below base fs sizes size running see known invoke
+        calls_safe
         waiting number scope e own (Ending own kept next names A S under) h names under w ticks
         (emptying see number block (run_all see invoke depth number scope block))
         (run_tests see invoke depth (number + names_in_block block) scope rest last) runs.0 ahead.0 going
@@ -372,11 +388,11 @@ module _ (types : Types) (owner : ClosedType → Option (List ℕ)) {V W : Type 
         under n left last kept next (omega arith) (omega arith) (omega arith) says
         (λ g m more_left is on2.
         safe g m more_left is
-        (goes_later types owner permits laws key loose result below base fs sizes size running own
+        (goes_later types owner permits ways laws key loose result below base fs sizes size running own
         ((number + names_in_block block) + names_in_tests rest)
         (number + (names_in_block block + names_in_tests rest)) g names under m (omega arith) on2))
         ahead.1.1 runs.2
-        (goes_later types owner permits laws key loose result below base fs sizes size running own number
+        (goes_later types owner permits ways laws key loose result below base fs sizes size running own number
         (number + names_in_block block) (after_whole see loose scope e h) names under n (omega arith) on))
 
     pub arms_safe : (all : Arms Bytes T C) (number : ℕ) (scope : Scope) (note : T) (own : List Act)
@@ -386,7 +402,7 @@ module _ (types : Types) (owner : ClosedType → Option (List ℕ)) {V W : Type 
         → RunsArms types owner see known result loose permits key
         (is_active (own ++ below)) number scope note all tag ts names
         → types_made parts ≡ ts → Gos own number h names (onto parts under) w
-        → GoodHeld types owner permits (Ending own kept next names A S under)
+        → GoodHeld types owner permits (key ∷ ways) (Ending own kept next names A S under)
         (run_arms see invoke depth number scope note all (tag, values_of parts) w ticks)
     arms_safe no_arms number scope note own A S h names under parts tag ts w ticks kept next fewer more room says ahead
         runs typed going =
@@ -405,7 +421,8 @@ module _ (types : Types) (owner : ClosedType → Option (List ℕ)) {V W : Type 
         (statement.binds_fields number binds (fields_told see note tag) (values_of parts)
         >> run_all see invoke depth (number + length binds) (with_bound (fields_told see note tag) number binds scope)
         block)) w ticks fewer (omega arith)
-        (arm_safe types owner permits laws key loose result below base fs sizes size running see known invoke calls_safe
+        (arm_safe types owner permits ways laws key loose result below base fs sizes size running see known invoke
+        calls_safe
         waiting own number (names_in_block block) binds (fields_told see note tag) fits.0 ts A S h names parts under w
         ticks (run_all see invoke depth (number + length binds) (with_bound (fields_told see note tag) number binds
         scope) block) fits.1 fits.2.0 typed (omega arith) says going
@@ -416,5 +433,5 @@ module _ (types : Types) (owner : ClosedType → Option (List ℕ)) {V W : Type 
         (λ fits.
         arms_safe rest (number + (length binds + names_in_block block)) scope note own A S h names under parts tag ts w
         ticks kept next (omega arith) (omega arith) (omega arith) says ahead.1 fits typed
-        (goes_later types owner permits laws key loose result below base fs sizes size running own number
+        (goes_later types owner permits ways laws key loose result below base fs sizes size running own number
         (number + (length binds + names_in_block block)) h names (onto parts under) w (omega arith) going))

@@ -64,7 +64,7 @@ more_active (a ∷ own) below z is = by (a.token == z) (more_active own below z 
     by false rest = rest
 
 module _ (types : Types) (owner : ClosedType → Option (List ℕ)) {V W : Type 0} (permits : Permits V W)
-    (laws : StepsAreSafe types owner) (key : V) (loose : ℕ → Bool)
+    (ways : List V) (laws : StepsAreSafe types owner) (key : V) (loose : ℕ → Bool)
     (result : Meaning) (below : List Act) (base : Lying) (fs : List Frame) (sizes : List ℕ) (size : ℕ)
     (running : IsRunning sizes fs size) where
   abbrev pub Goes : List Act → ℕ → Standing → Names → Made → World → Type 0
@@ -78,8 +78,8 @@ module _ (types : Types) (owner : ClosedType → Option (List ℕ)) {V W : Type 
 
   -- its names stand as they may
   pub stands : (own : List Act) (number : ℕ) (h : Standing) (names : Names) (under : Made) (w : World)
-      → Goes own number h names under w → Stands permits (is_active (own ++ below)) h names
-  stands own number h names under w going = (going.waits, (key, λ k. by k (going.fine k)))
+      → Goes own number h names under w → Stands permits key (is_active (own ++ below)) h names
+  stands own number h names under w going = (going.waits, λ k. by k (going.fine k))
     where
       by : (k : ℕ) → (h k ≡ empty) ⊎ IsFine types loose permits key k (names k)
           → (h k ≡ empty) ⊎ IsPermitted permits key (names k)
@@ -87,25 +87,26 @@ module _ (types : Types) (owner : ClosedType → Option (List ℕ)) {V W : Type 
       by k (inr fine) = inr fine.1
 
   -- its run may be cut off
-  pub cut_on : AllWait permits (is_active below) fs → (own : List Act) (number : ℕ) (h : Standing) (names : Names)
-      (under : Made) (w : World) → Goes own number h names under w → IsCutSo types owner permits w
+  pub cut_on : AllWait permits ways (is_active below) fs → (own : List Act) (number : ℕ) (h : Standing) (names : Names)
+      (under : Made) (w : World) → Goes own number h names under w → IsCutSo types owner permits (key ∷ ways) w
   cut_on waiting own number h names under w going = (
     laws.actions.told (own ++ below) (frame h names ∷ fs) sizes under w going.state,
     record {
+      newer = [];
       acts = own ++ below;
       frames = frame h names ∷ fs;
       sizes = sizes;
       under = under;
       state = going.state;
-      held = ((stands own number h names under w going).1, all_held permits (is_active below) fs waiting);
+      held = ((stands own number h names under w going).1, all_held permits ways (is_active below) fs waiting);
     },
   )
 
   -- a tick in a frame that goes on
-  pub ticks_on : {A : Type 0} → AllWait permits (is_active below) fs → (q : A → World → Type 0) (m : Action A)
+  pub ticks_on : {A : Type 0} → AllWait permits ways (is_active below) fs → (q : A → World → Type 0) (m : Action A)
       (own : List Act) (number : ℕ) (h : Standing) (names : Names) (under : Made) (w : World) (ticks : ℕ)
-      → Goes own number h names under w → ((left : ℕ) → GoodHeld types owner permits q (m w left))
-      → GoodHeld types owner permits q (tick m w ticks)
+      → Goes own number h names under w → ((left : ℕ) → GoodHeld types owner permits (key ∷ ways) q (m w left))
+      → GoodHeld types owner permits (key ∷ ways) q (tick m w ticks)
   ticks_on waiting q m own number h names under w ticks going next =
       good_tick owner _ q m w ticks (cut_on waiting own number h names under w going) next
 
@@ -170,17 +171,19 @@ module _ (types : Types) (owner : ClosedType → Option (List ℕ)) {V W : Type 
   pub ends_then : (own others : List Act) (kept next more_kept later : ℕ) (before names : Names)
       (A B : Standing → Type 0)
       (R S : Names → Type 0) (under : Made) (first : Action Flow) (more : Action Flow) (w : World) (ticks : ℕ)
-      → GoodHeld types owner permits (Ends own kept next before A R under) (first w ticks)
+      → GoodHeld types owner permits (key ∷ ways) (Ends own kept next before A R under) (first w ticks)
       → ((n : World) (left : ℕ) → Fell types owner permits key loose result below base fs sizes size own kept next
       before A R under n
-      → GoodHeld types owner permits (Ends others more_kept later names B S under) (more n left))
-      → GoodHeld types owner permits (Ends others more_kept later names B S under) ((first >>= and_then more) w ticks)
+      → GoodHeld types owner permits (key ∷ ways) (Ends others more_kept later names B S under) (more n left))
+      → GoodHeld types owner permits (key ∷ ways) (Ends others more_kept later names B S under)
+      ((first >>= and_then more) w ticks)
   ends_then own others kept next more_kept later before names A B R S under first more w ticks good go =
       good_then owner _ (Ends own kept next before A R under) (Ends others more_kept later names B S under)
       (first w ticks) (and_then more) good by
     where
       by : (flow : Flow) (n : World) (left : ℕ) → Ends own kept next before A R under flow n
-          → GoodHeld types owner permits (Ends others more_kept later names B S under) (and_then more flow n left)
+          → GoodHeld types owner permits (key ∷ ways) (Ends others more_kept later names B S under)
+          (and_then more flow n left)
       by falls n left fell = go n left fell
       by (returns v) n left gone = gone
 
@@ -218,7 +221,8 @@ module _ (types : Types) (owner : ClosedType → Option (List ℕ)) {V W : Type 
       → Fell types owner permits key loose result below base fs sizes size own number (number + count) before
       (λ h. ((k : ℕ) → number ≤ k → k < number + count → IsOver (loose k) (h k)) × A (put_each number count empty h)) R
       under w
-      → GoodHeld types owner permits (Ends own number number before A S under) (empties number count w ticks)
+      → GoodHeld types owner permits (key ∷ ways) (Ends own number number before A S under)
+      (empties number count w ticks)
   emptied_on own number count before A R S under w ticks room says fell =
       good_falls owner _ (Ends own number number before A S under) (emptied number count) w ticks (record {
         hold = put_each number count empty fell.hold;
@@ -267,12 +271,13 @@ module _ (types : Types) (owner : ClosedType → Option (List ℕ)) {V W : Type 
   pub within_safe : (own : List Act) (number count : ℕ) (before : Names) (A : Standing → Type 0) (R : Names → Type 0)
       (S : Names → Type 0) (under : Made) (block : Action Flow) (w : World) (ticks : ℕ) → number + count ≤ size
       → S before
-      → GoodHeld types owner permits
+      → GoodHeld types owner permits (key ∷ ways)
       (Ends own number (number + count) before
       (λ h. ((k : ℕ) → number ≤ k → k < number + count → IsOver (loose k) (h k)) × A (put_each number count empty h)) R
       under)
       (block w ticks)
-      → GoodHeld types owner permits (Ends own number number before A S under) (within number count block w ticks)
+      → GoodHeld types owner permits (key ∷ ways) (Ends own number number before A S under)
+      (within number count block w ticks)
   within_safe own number count before A R S under block w ticks room says good =
       ends_then own own number (number + count) number number before before
       (λ h. ((k : ℕ) → number ≤ k → k < number + count → IsOver (loose k) (h k)) × A (put_each number count empty h)) A
@@ -290,21 +295,23 @@ module _ (types : Types) (owner : ClosedType → Option (List ℕ)) {V W : Type 
     pub state : IsIn types owner (own ++ below) (frame hold names ∷ fs) sizes ((v, of) ∷ under) n
 
   module _ {I T C K : Type 0} (see : View I T C) (known : Callables I K) (invoke : I → List Value → Action Value)
-      (calls_safe : CallsSafe types owner permits known invoke) (waiting : AllWait permits (is_active below) fs) where
-    all_wait : (own : List Act) → AllWait permits (is_active (own ++ below)) fs
-    all_wait own = all_more permits (is_active below) (is_active (own ++ below)) (more_active own below) fs waiting
+      (calls_safe : CallsSafe types owner permits (key ∷ ways) known invoke)
+      (waiting : AllWait permits ways (is_active below) fs) where
+    all_wait : (own : List Act) → AllWait permits ways (is_active (own ++ below)) fs
+    all_wait own = all_more permits ways (is_active below) (is_active (own ++ below)) (more_active own below) fs waiting
 
     pub values_safe : (A : Meaning → Type 0) (scope : Scope) (e : Expression Bytes T C) (own : List Act) (number : ℕ)
         (h : Standing) (names : Names) (under : Made) (w : World) (ticks : ℕ)
         → ((z : ℕ) → is_active (own ++ below) z ≡ false
         → (t : Meaning) × A t × IsOf types owner see known names z (with_token z (is_active (own ++ below))) scope e t)
         → AreReady h (λ k. uses see k scope e) → Goes own number h names under w
-        → GoodHeld types owner permits (Valued own number A (after_whole see loose scope e h) names under)
+        → GoodHeld types owner permits (key ∷ ways) (Valued own number A (after_whole see loose scope e h) names under)
         (whole see invoke scope e w ticks)
     values_safe A scope e own number h names under w ticks fits met going =
         let counts = λ (k : ℕ). (uses see k scope e).consumed in
         good_so owner _
-        (Gave types owner permits laws.actions (own ++ below) names fs sizes size running see known invoke calls_safe
+        (Gave types owner permits key ways laws.actions (own ++ below) names fs sizes size running see known invoke
+        calls_safe
         (all_wait own) A (λ k. spent (uses see k scope e).consumed (h k)) under (lying_in w))
         (Valued own number A (after_whole see loose scope e h) names under) (whole see invoke scope e w ticks)
         (λ v n gave. record {
@@ -319,7 +326,8 @@ module _ (types : Types) (owner : ClosedType → Option (List ℕ)) {V W : Type 
           };
           state = gave.state;
         })
-        (whole_safe types owner permits laws.actions (own ++ below) names fs sizes size running see known invoke
+        (whole_safe types owner permits key ways laws.actions (own ++ below) names fs sizes size running see known
+        invoke
         calls_safe (all_wait own) A scope e h under w ticks fits met (stands own number h names under w going)
         going.state)
       where
@@ -333,7 +341,8 @@ module _ (types : Types) (owner : ClosedType → Option (List ℕ)) {V W : Type 
         (h : Standing) (names : Names) (under : Made) (w : World) (ticks : ℕ)
         → IsWholeOf types owner see known result loose permits key (is_active (own ++ below)) names scope e t
         → AreReady h (λ k. uses see k scope e) → Goes own number h names under w
-        → GoodHeld types owner permits (λ (v : Value) n. Goes own number (after_whole see loose scope e h) names
+        → GoodHeld types owner permits (key ∷ ways) (λ (v : Value) n. Goes own number
+        (after_whole see loose scope e h) names
         ((v, t) ∷ under) n)
         (whole see invoke scope e w ticks)
     value_safe t scope e own number h names under w ticks fits met going =

@@ -1,5 +1,5 @@
 -- How a running frame stands between statements, and how statements leave it.
-use Rattle.std.specs.Prelude.{◌≡◌, ◌⊎◌, ℕ, ◌<◌, ◌≤◌, Bool, true, List, [], ◌∷◌, ◌++◌, map, Option}
+use Rattle.std.specs.Prelude.{◌≡◌, ◌⊎◌, ℕ, ◌<◌, ◌≤◌, Bool, List, [], ◌∷◌, ◌++◌, map, Option}
 use Rattle.au_type_texts.specs.Types.{ClosedType}
 use Rattle.au_types.specs.Types.{Meaning}
 use Rattle.au_memory.specs.Forests.{Made, empty}
@@ -24,15 +24,15 @@ abbrev pub IsBottom : List Act → (lying base : Lying) → Type 0
 IsBottom [] lying base = lying ≡ base
 IsBottom (a ∷ own) lying base = IsBottom own a.base base
 
--- what names may hold in the way in which the function was called, which of the frame's names hold what may
--- be dropped, the type that its body returns, the tokens that were
--- active when it began and the borrows that lay open then, the frames below, and how many names it has
+-- what names may hold, the way in which the function was called, which of the frame's names hold what may be
+-- dropped, the type that its body returns, the tokens that were active when it began and the borrows that lay
+-- open then, the frames below, and how many names it has
 module _ (types : Types) (owner : ClosedType → Option (List ℕ)) {V W : Type 0} (permits : Permits V W)
-    (key : V) (loose : ℕ → Bool) (result : Meaning)
-    (below : List Act) (base : Lying) (fs : List Frame) (sizes : List ℕ) (size : ℕ) where
+    (key : V) (loose : ℕ → Bool) (result : Meaning) (below : List Act) (base : Lying) (fs : List Frame)
+    (sizes : List ℕ) (size : ℕ) where
   -- The frame goes on with tokens of its own: its names from a number on are empty, each waits for tokens
-  -- that are active, and the others are fine: what may be dropped is of a type of which that holds, and what
-  -- they hold is of a permitted one.
+  -- that are active, and each is empty or fine: it may be dropped where that is said of it, and its type is
+  -- permitted.
   pub record Going (own : List Act) (number : ℕ) (hold : Standing) (names : Names) (under : Made)
       (w : World) : Type 0
     where

@@ -10,7 +10,8 @@ ghost use Rattle.au_sound_expressions.specs.Held.{Permits};
 ghost use Rattle.au_sound_expressions.specs.Known.{Callables};
 ghost use Rattle.au_sound_blocks.specs.Laws.{BodiesAreSafe};
 
-/// Bodies that return on each way are safe where actions and calls are.
+/// Bodies that return on each way are safe where actions and calls are, and names hold what they may wherever
+/// their run is cut off.
 pub fn bodies_are_safe<I, T, C, K, V, W>()
     ensures { (types : Types) (owner : ClosedType → Option (List ℕ)) (permits : Permits V W)
         (see : View I T C) (known : Callables I K)

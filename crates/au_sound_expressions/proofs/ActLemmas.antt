@@ -44,21 +44,23 @@ use Rattle.au_sound_expressions.proofs.LeafLemmas.{plain_left, shut_left, ticks_
 use Rattle.au_running_judgements.specs.Held.{AllHeld, GoodHeld, IsCutSo, Permits}
 
 module _ (types : Types) (owner : ClosedType → Option (List ℕ)) {V W : Type 0} (permits : Permits V W)
-    (laws : ActionsAreSafe types owner)
+    (way : V) (ways : List V) (laws : ActionsAreSafe types owner)
     (a : Act) (older : List Act) (names : ℕ → Meaning) (fs : List Frame) (sizes : List ℕ) (size : ℕ)
-    (running : IsRunning sizes fs size) (below : AllHeld permits fs) where
+    (running : IsRunning sizes fs size) (below : AllHeld permits ways fs) where
   abbrev active : ℕ → Bool
   active = is_active (a ∷ older)
 
   abbrev Ins : Standing → Made → World → Type 0
-  Ins h under w = In types owner permits laws a older names fs sizes size running below h under w
+  Ins h under w = In types owner permits way ways laws a older names fs sizes size running below h under w
 
   abbrev Lefts : Meaning → Standing → (ℕ → ℕ) → (ℕ → Counts) → Made → Value → World → Type 0
-  Lefts t h consumed rest under v n = Left types owner permits laws a older names fs sizes size running below t h
+  Lefts t h consumed rest under v n = Left types owner permits way ways laws a older names fs sizes size running
+      below t h
       consumed rest under v n
 
   abbrev IsSafe : (ℕ → Counts) → (Meaning → Type 0) → Action Value → Type 0
-  IsSafe counts A action = Safe types owner permits laws a older names fs sizes size running below counts A action
+  IsSafe counts A action = Safe types owner permits way ways laws a older names fs sizes size running below counts A
+      action
 
   -- ---- references in names
 
@@ -66,14 +68,14 @@ module _ (types : Types) (owner : ClosedType → Option (List ℕ)) {V W : Type 
   pub behind_good : (h : Standing) (x : ℕ) (path : List ℕ) (one of t : Meaning) (region : Region) (under : Made)
       (w : World) (ticks : ℕ) → IsReference types one of region → InScope active region → names x ≡ one
       → IsReadable (h x) → LeadsOn types of path t → types.is_free t ≡ true → Ins h under w
-      → GoodHeld types owner permits (λ (v : Value) n. Ins h ((v, t) ∷ under) n)
+      → GoodHeld types owner permits (way ∷ ways) (λ (v : Value) n. Ins h ((v, t) ∷ under) n)
       (follows (refers x path w ticks) meaning.reads)
   behind_good h x path one of t region under w ticks (inl writer) (inl static) named is leads free state =
       absurd (laws.named_statics (a ∷ older) (frame h names) fs sizes size under w x of is
       (inl (named ∙ (writer ∙ ap (writes of) static))) state)
   behind_good h x path one of t region under w ticks (inl writer) (inr scoped) named is leads free state =
       good_uncut owner _ (λ (v : Value) n. Ins h ((v, t) ∷ under) n) (follows (refers x path w ticks) meaning.reads)
-          (laws.writers_read (a ∷ older) (frame h names) fs sizes size under w ticks laws.typed
+      (laws.writers_read (a ∷ older) (frame h names) fs sizes size under w ticks laws.typed
       running x path of t scoped.0 is
       (named ∙ (writer ∙ ap (writes of) scoped.1)) scoped.2 leads free state)
   behind_good h x path one of t region under w ticks (inr reader) (inl static) named is leads free state =
@@ -81,7 +83,7 @@ module _ (types : Types) (owner : ClosedType → Option (List ℕ)) {V W : Type 
       (inr (named ∙ (reader.0 ∙ ap (reads of) static))) state)
   behind_good h x path one of t region under w ticks (inr reader) (inr scoped) named is leads free state =
       good_uncut owner _ (λ (v : Value) n. Ins h ((v, t) ∷ under) n) (follows (refers x path w ticks) meaning.reads)
-          (laws.readers_read (a ∷ older) (frame h names) fs sizes size under w ticks laws.typed
+      (laws.readers_read (a ∷ older) (frame h names) fs sizes size under w ticks laws.typed
       running x path of t scoped.0 is
       (named ∙ (reader.0 ∙ ap (reads of) scoped.1))
       (subst (λ r. types.is_free (reads of r) ≡ true) scoped.1 reader.1) scoped.2 leads free state)
@@ -90,8 +92,8 @@ module _ (types : Types) (owner : ClosedType → Option (List ℕ)) {V W : Type 
   deref_name : (h : Standing) (x : Variable) (one t : Meaning) (region : Region) (rest : ℕ → Counts) (under : Made)
       (w : World) (ticks : ℕ) → IsReference types one t region → InScope active region → names x.number ≡ one
       → types.is_free t ≡ true → AreReady h (λ k. plus (where_of k (Some x) one_look) (rest k))
-      → Stands permits active h names → Ins h under w
-      → GoodHeld types owner permits (λ (v : Value) n. Ins h ((v, t) ∷ under) n)
+      → Stands permits way active h names → Ins h under w
+      → GoodHeld types owner permits (way ∷ ways) (λ (v : Value) n. Ins h ((v, t) ∷ under) n)
       (follows (tick (looks x.number []) w ticks) (λ r. tick (needing (reference_in r) meaning.reads)))
   deref_name h x one t region rest under w ticks (inl writer) (inl static) named free met waits state =
       absurd (laws.named_statics (a ∷ older) (frame h names) fs sizes size under w x.number t
@@ -105,13 +107,14 @@ module _ (types : Types) (owner : ClosedType → Option (List ℕ)) {V W : Type 
       (needing (reference_in r) meaning.reads n left)) in
       let q = λ (v : Value) (n : World). Ins h ((v, t) ∷ under) n in
       good_then owner _ mid q (tick (looks x.number []) w ticks) (λ r. tick (needing (reference_in r) meaning.reads))
-      (ticks_well types owner permits laws a older names fs sizes size running below mid (looks x.number []) h under
+      (ticks_well types owner permits way ways laws a older names fs sizes size running below mid (looks x.number [])
+      h under
       w ticks waits state
       (λ left. good_uncut owner _ mid (looks x.number [] w left)
       (laws.writers_looked (a ∷ older) (frame h names) fs sizes size under w left
       running x.number t
       scoped.0 is (named ∙ (writer ∙ ap (writes t) scoped.1)) scoped.2 free state)))
-      (λ r n left both. ticks_well types owner permits laws a older names fs sizes size running below q
+      (λ r n left both. ticks_well types owner permits way ways laws a older names fs sizes size running below q
       (needing (reference_in r) meaning.reads) h under n left waits both.0
       (λ more. good_uncut owner _ q (needing (reference_in r) meaning.reads n more) (both.1 more)))
   deref_name h x one t region rest under w ticks (inr reader) (inl static) named free met waits state =
@@ -126,14 +129,15 @@ module _ (types : Types) (owner : ClosedType → Option (List ℕ)) {V W : Type 
       let mid = λ (r : Value) (n : World). Ins h ((r, reads t (token scoped.0)) ∷ under) n in
       let q = λ (v : Value) (n : World). Ins h ((v, t) ∷ under) n in
       good_then owner _ mid q (tick (looks x.number []) w ticks) (λ r. tick (needing (reference_in r) meaning.reads))
-      (ticks_well types owner permits laws a older names fs sizes size running below mid (looks x.number []) h under
+      (ticks_well types owner permits way ways laws a older names fs sizes size running below mid (looks x.number [])
+      h under
       w ticks waits state
       (λ left. good_uncut owner _ mid (looks x.number [] w left)
       (laws.looked (a ∷ older) (frame h names) fs sizes size under w left typed.forms
       typed.cases typed.lawful running x.number [] (reads t (token scoped.0)) is
       (named ∙ (reader.0 ∙ ap (reads t) scoped.1))
       (subst (λ r. types.is_free (reads t r) ≡ true) scoped.1 reader.1) state)))
-      (λ r n left seen. ticks_well types owner permits laws a older names fs sizes size running below q
+      (λ r n left seen. ticks_well types owner permits way ways laws a older names fs sizes size running below q
       (needing (reference_in r) meaning.reads) h ((r, reads t (token scoped.0)) ∷ under) n left waits seen
       (λ more. good_uncut owner _ q (needing (reference_in r) meaning.reads n more)
       (laws.copied (a ∷ older) (frame h names ∷ fs) sizes under n more laws.typed r t
@@ -142,14 +146,14 @@ module _ (types : Types) (owner : ClosedType → Option (List ℕ)) {V W : Type 
   -- what stands behind a reference under way is copied
   deref_value : (h : Standing) (r : Value) (one t : Meaning) (region : Region) (under : Made) (w : World) (ticks : ℕ)
       → IsReference types one t region → InScope active region → types.is_free t ≡ true → Ins h ((r, one) ∷ under) w
-      → GoodHeld types owner permits (λ (v : Value) n. Ins h ((v, t) ∷ under) n)
+      → GoodHeld types owner permits (way ∷ ways) (λ (v : Value) n. Ins h ((v, t) ∷ under) n)
       (needing (reference_in r) meaning.reads w ticks)
   deref_value h r one t region under w ticks (inl writer) (inl static) free state =
       absurd (laws.statics (a ∷ older) (frame h names ∷ fs) sizes under w r t
       (inl (subst (λ (s : Meaning). Ins h ((r, s) ∷ under) w) (writer ∙ ap (writes t) static) state)))
   deref_value h r one t region under w ticks (inl writer) (inr scoped) free state =
       good_uncut owner _ (λ (v : Value) n. Ins h ((v, t) ∷ under) n) (needing (reference_in r) meaning.reads w ticks)
-          (laws.writers_copied (a ∷ older) (frame h names ∷ fs) sizes under w ticks r t scoped.0
+      (laws.writers_copied (a ∷ older) (frame h names ∷ fs) sizes under w ticks r t scoped.0
       free scoped.2
       (subst (λ (s : Meaning). Ins h ((r, s) ∷ under) w) (writer ∙ ap (writes t) scoped.1) state))
   deref_value h r one t region under w ticks (inr reader) (inl static) free state =
@@ -157,7 +161,7 @@ module _ (types : Types) (owner : ClosedType → Option (List ℕ)) {V W : Type 
       (inr (subst (λ (s : Meaning). Ins h ((r, s) ∷ under) w) (reader.0 ∙ ap (reads t) static) state)))
   deref_value h r one t region under w ticks (inr reader) (inr scoped) free state =
       good_uncut owner _ (λ (v : Value) n. Ins h ((v, t) ∷ under) n) (needing (reference_in r) meaning.reads w ticks)
-          (laws.copied (a ∷ older) (frame h names ∷ fs) sizes under w ticks laws.typed r t
+      (laws.copied (a ∷ older) (frame h names ∷ fs) sizes under w ticks laws.typed r t
       scoped.0 free scoped.2
       (subst (λ (s : Meaning). Ins h ((r, s) ∷ under) w) (reader.0 ∙ ap (reads t) scoped.1) state))
 
@@ -167,18 +171,20 @@ module _ (types : Types) (owner : ClosedType → Option (List ℕ)) {V W : Type 
         → IsSafe (λ k. where_of k o (mentioned (see.is_free note)))
         (λ t. Mentions types owner see known names a.token active o note name t) (tick (mentions see note o name))
     mention_safe (Some x) note name t fits rest h under w ticks met waits state =
-        ticks_well types owner permits laws a older names fs sizes size running below
+        ticks_well types owner permits way ways laws a older names fs sizes size running below
         (Lefts t h (λ k. (where_of k (Some x) (mentioned (see.is_free note))).consumed) rest under)
         (copies (see.is_free note) x.number) h under w ticks waits state
-        (λ left. copies_safe types owner permits laws a older names fs sizes size running below (see.is_free note) x
+        (λ left. copies_safe types owner permits way ways laws a older names fs sizes size running below
+        (see.is_free note) x
         t fits rest h under
         w left met waits state)
     mention_safe None note name t fits rest h under w ticks met waits state =
         let q = Lefts t h (λ k. 0) rest under in
-        ticks_well types owner permits laws a older names fs sizes size running below q
+        ticks_well types owner permits way ways laws a older names fs sizes size running below q
         (needing (see.constant note name) pure) h under w
         ticks waits state (λ left. good_needing owner _ q (see.constant note name) fits.0 pure w left fits.1
-        (plain_left types owner permits laws a older names fs sizes size running below fits.0 t fits.2 rest h under w
+        (plain_left types owner permits way ways laws a older names fs sizes size running below fits.0 t fits.2 rest
+        h under w
         met waits state))
 
     -- a part of a variable
@@ -188,11 +194,11 @@ module _ (types : Types) (owner : ClosedType → Option (List ℕ)) {V W : Type 
     into_safe None fields t fits rest h under w ticks met waits state = absurd fits
     into_safe (Some x) fields t fits rest h under w ticks met waits state =
         let q = Lefts t h (λ k. (where_of k (Some x) one_look).consumed) rest under in
-        ticks_well types owner permits laws a older names fs sizes size running below q
+        ticks_well types owner permits way ways laws a older names fs sizes size running below q
         (looks_into see (Some x) fields) h under w ticks
         waits state (λ left. good_needing owner _ q (path_numbers (λ of. see.fields of 0) x.of fields) fits.0
         (looks x.number) w
-        left fits.1 (look_safe types owner permits laws a older names fs sizes size running below x fits.0 t
+        left fits.1 (look_safe types owner permits way ways laws a older names fs sizes size running below x fits.0 t
         (fits.2, fits.3) rest h
         under w left met waits state))
 
@@ -210,13 +216,13 @@ module _ (types : Types) (owner : ClosedType → Option (List ℕ)) {V W : Type 
         let is = is_readable (h x.number)
         (ready.looks (stand (h x.number)) (rest x.number) (met_own x one_look h rest met)).0 in
         let to = fits.2 in
-        ticks_well types owner permits laws a older names fs sizes size running below q
+        ticks_well types owner permits way ways laws a older names fs sizes size running below q
         (reaches see (Some x) fields >>= meaning.reads) h
         under w ticks waits state (λ left.
-        subst (λ (p : Option (List ℕ)). GoodHeld types owner permits q
-            (follows (needing p (refers x.number) w left) meaning.reads))
+        subst (λ (p : Option (List ℕ)). GoodHeld types owner permits (way ∷ ways) q
+        (follows (needing p (refers x.number) w left) meaning.reads))
         (sym to.2)
-        (good_stays types owner permits laws a older names fs sizes size running below
+        (good_stays types owner permits way ways laws a older names fs sizes size running below
         (λ k. where_of k (Some x) one_look) rest h t under
         (follows (refers x.number to.0 w left) meaning.reads) (λ k. kept_where k (Some x) one_look refl) met waits
         (behind_good h x.number to.0 to.3.0 to.1 t fits.0 under w left to.3.2 to.4 to.3.1 is to.5 fits.1 state)))
@@ -235,11 +241,11 @@ module _ (types : Types) (owner : ClosedType → Option (List ℕ)) {V W : Type 
         let is = is_readable (h x.number)
         (ready.looks (stand (h x.number)) (rest x.number) (met_own x one_look h rest met)).0 in
         let to = fits.3 in
-        ticks_well types owner permits laws a older names fs sizes size running below q
+        ticks_well types owner permits way ways laws a older names fs sizes size running below q
         (reaches see (Some x) fields >>= (λ one. pure (referring one))) h under w ticks waits state (λ left.
-        subst (λ (p : Option (List ℕ)). GoodHeld types owner permits q
+        subst (λ (p : Option (List ℕ)). GoodHeld types owner permits (way ∷ ways) q
         (follows (needing p (refers x.number) w left) (λ one. pure (referring one)))) (sym to.2)
-        (good_stays types owner permits laws a older names fs sizes size running below
+        (good_stays types owner permits way ways laws a older names fs sizes size running below
         (λ k. where_of k (Some x) one_look) rest h t under
         (follows (refers x.number to.0 w left) (λ one. pure (referring one))) (λ k. kept_where k (Some x) one_look refl)
         met waits (by fits.0 to.4 to.3.0 to.3.1 fits.2 left is)))
@@ -247,13 +253,14 @@ module _ (types : Types) (owner : ClosedType → Option (List ℕ)) {V W : Type 
         by : (region : Region) → InScope active region → names x.number ≡ reads fits.3.1 region
             → types.is_free (reads fits.3.1 region) ≡ true → t ≡ reads fits.1 region → (left : ℕ)
             → IsReadable (h x.number)
-            → GoodHeld types owner permits (λ (v : Value) n. Ins h ((v, t) ∷ under) n)
+            → GoodHeld types owner permits (way ∷ ways) (λ (v : Value) n. Ins h ((v, t) ∷ under) n)
             (follows (refers x.number fits.3.0 w left) (λ one. pure (referring one)))
         by region (inl static) named free same left is =
             absurd (laws.named_statics (a ∷ older) (frame h names) fs sizes size under w x.number fits.3.1 is
             (inr (named ∙ ap (reads fits.3.1) static)) state)
         by region (inr scoped) named free same left is =
-            subst (λ (s : Meaning). GoodHeld types owner permits (λ (v : Value) n. Ins h ((v, s) ∷ under) n)
+            subst (λ (s : Meaning). GoodHeld types owner permits (way ∷ ways)
+            (λ (v : Value) n. Ins h ((v, s) ∷ under) n)
             (follows (refers x.number fits.3.0 w left) (λ one. pure (referring one))))
             (sym (same ∙ ap (reads fits.1) scoped.1))
             (good_uncut owner _ (λ (v : Value) n. Ins h ((v, reads fits.1 (token scoped.0)) ∷ under) n)
@@ -272,13 +279,14 @@ module _ (types : Types) (owner : ClosedType → Option (List ℕ)) {V W : Type 
     borrow_safe mode.Write (Some x) t fits rest h under w ticks met waits state =
         let is = is_ready (h x.number)
         (ready.lends (stand (h x.number)) (rest x.number) (met_own x (borrowed_by mode.Write) h rest met)).0 in
-        ticks_well types owner permits laws a older names fs sizes size running below
+        ticks_well types owner permits way ways laws a older names fs sizes size running below
         (Lefts t h (λ k. (where_of k (Some x) (borrowed_by mode.Write)).consumed) rest under)
         (lends mode.Write x.number) h
         under w ticks waits state (λ left.
-        shut_left types owner permits laws a older names fs sizes size running below x rest h under w left waits t
+        shut_left types owner permits way ways laws a older names fs sizes size running below x rest h under w left
+        waits t
         (lends mode.Write x.number w left) met is
-        (subst (λ (u : Meaning). GoodHeld types owner permits
+        (subst (λ (u : Meaning). GoodHeld types owner permits (way ∷ ways)
         (λ (v : Value) n. Ins (λ k. if x.number == k then shut a.token else h k) ((v, u) ∷ under) n)
         (lends mode.Write x.number w left)) (sym fits)
         (good_uncut owner _ (λ (v : Value) n. Ins (λ k. if x.number == k then shut a.token else h k)
@@ -288,13 +296,14 @@ module _ (types : Types) (owner : ClosedType → Option (List ℕ)) {V W : Type 
     borrow_safe mode.Read (Some x) t fits rest h under w ticks met waits state =
         let is = is_readable (h x.number)
         (ready.reads (stand (h x.number)) (rest x.number) (met_own x (borrowed_by mode.Read) h rest met)).0 in
-        ticks_well types owner permits laws a older names fs sizes size running below
+        ticks_well types owner permits way ways laws a older names fs sizes size running below
         (Lefts t h (λ k. (where_of k (Some x) (borrowed_by mode.Read)).consumed) rest under)
         (lends mode.Read x.number) h
         under w ticks waits state (λ left.
-        watched_left types owner permits laws a older names fs sizes size running below x rest h under w left waits t
+        watched_left types owner permits way ways laws a older names fs sizes size running below x rest h under w
+        left waits t
         (lends mode.Read x.number w left) met is
-        (subst (λ (u : Meaning). GoodHeld types owner permits (λ (v : Value) n.
+        (subst (λ (u : Meaning). GoodHeld types owner permits (way ∷ ways) (λ (v : Value) n.
         Ins (λ k. if x.number == k then also_watched a.token (h x.number) else h k) ((v, u) ∷ under) n)
         (lends mode.Read x.number w left)) (sym fits)
         (good_uncut owner _ (λ (v : Value) n. Ins (λ k. if x.number == k then also_watched a.token (h x.number) else
@@ -304,16 +313,17 @@ module _ (types : Types) (owner : ClosedType → Option (List ℕ)) {V W : Type 
     borrow_safe mode.Reborrow (Some x) t fits rest h under w ticks met waits state =
         let is = is_ready (h x.number)
         (ready.lends (stand (h x.number)) (rest x.number) (met_own x (borrowed_by mode.Write) h rest met)).0 in
-        ticks_well types owner permits laws a older names fs sizes size running below
+        ticks_well types owner permits way ways laws a older names fs sizes size running below
         (Lefts t h (λ k. (where_of k (Some x) (borrowed_by mode.Reborrow)).consumed) rest under)
         (lends mode.Reborrow x.number) h under w ticks waits state (λ left.
-        shut_left types owner permits laws a older names fs sizes size running below x rest h under w left waits t
+        shut_left types owner permits way ways laws a older names fs sizes size running below x rest h under w left
+        waits t
         (lends mode.Reborrow x.number w left) met is
-        (subst (λ (u : Meaning). GoodHeld types owner permits
+        (subst (λ (u : Meaning). GoodHeld types owner permits (way ∷ ways)
         (λ (v : Value) n. Ins (λ k. if x.number == k then shut a.token else h k) ((v, u) ∷ under) n)
         (lends mode.Reborrow x.number w left)) (sym fits.4) (by fits.3 left is)))
       where
-        by : InScope active fits.1 → (left : ℕ) → h x.number ≡ forest.ready → GoodHeld types owner permits
+        by : InScope active fits.1 → (left : ℕ) → h x.number ≡ forest.ready → GoodHeld types owner permits (way ∷ ways)
             (λ (v : Value) n.
             Ins (λ k. if x.number == k then shut a.token else h k) ((v, writes fits.0 (token a.token)) ∷ under) n)
             (lends mode.Reborrow x.number w left)
@@ -322,8 +332,8 @@ module _ (types : Types) (owner : ClosedType → Option (List ℕ)) {V W : Type 
             (subst IsReadable (sym is) tt) (inl (fits.2 ∙ ap (writes fits.0) static)) state)
         by (inr scoped) left is =
             good_uncut owner _ (λ (v : Value) n. Ins (λ k. if x.number == k then shut a.token else h k)
-                ((v, writes fits.0 (token a.token)) ∷ under) n) (lends mode.Reborrow x.number w left)
-                (laws.relent (a ∷ older) (frame h names) fs sizes size under w left
+            ((v, writes fits.0 (token a.token)) ∷ under) n) (lends mode.Reborrow x.number w left)
+            (laws.relent (a ∷ older) (frame h names) fs sizes size under w left
             (laws.typed).forms running a older refl
             x.number fits.0 scoped.0 is (fits.2 ∙ ap (writes fits.0) scoped.1) scoped.2 state)
 
@@ -336,7 +346,7 @@ module _ (types : Types) (owner : ClosedType → Option (List ℕ)) {V W : Type 
         × (types.is_free t ≡ true) × Refers types owner see known names a.token active o A r)
         (operand o other >>= (λ r. tick (needing (reference_in r) meaning.reads)))
     deref_safe (Some x) counts A other safe t fits rest h under w ticks met waits state =
-        good_stays types owner permits laws a older names fs sizes size running below
+        good_stays types owner permits way ways laws a older names fs sizes size running below
         (λ k. where_of k (Some x) one_look) rest h t under
         (follows (tick (looks x.number []) w ticks) (λ r. tick (needing (reference_in r) meaning.reads)))
         (λ k. kept_where k (Some x) one_look refl) met waits
@@ -346,7 +356,7 @@ module _ (types : Types) (owner : ClosedType → Option (List ℕ)) {V W : Type 
         good_then owner _ (Lefts fits.0 h (λ k. (counts k).consumed) rest under) q (other w ticks)
         (λ r. tick (needing (reference_in r) meaning.reads))
         (safe fits.0 fits.5 rest h under w ticks met waits state) (λ r n left after.
-        ticks_well types owner permits laws a older names fs sizes size running below q
+        ticks_well types owner permits way ways laws a older names fs sizes size running below q
         (needing (reference_in r) meaning.reads)
         after.hold ((r, fits.0) ∷ under) n left after.waits after.state (λ more.
         good_so owner _ (λ (v : Value) m. Ins after.hold ((v, t) ∷ under) m) q
@@ -361,29 +371,30 @@ module _ (types : Types) (owner : ClosedType → Option (List ℕ)) {V W : Type 
 
     -- ---- what a call does with its arguments
 
-    module _ (invoke : I → List Value → Action Value) (calls_safe : CallsSafe types owner permits known invoke)
-        (waiting : AllWait permits (is_active (a ∷ older)) fs) (h : Standing) (made under : Made) (w : World)
+    module _ (invoke : I → List Value → Action Value) (calls_safe : CallsSafe types owner permits (way ∷ ways) known
+        invoke)
+        (waiting : AllWait permits ways (is_active (a ∷ older)) fs) (h : Standing) (made under : Made) (w : World)
         (ticks : ℕ)
-        (waits : Stands permits (is_active (a ∷ older)) h names) (state : Ins h (onto made under) w) where
+        (waits : Stands permits way (is_active (a ∷ older)) h names) (state : Ins h (onto made under) w) where
       made_good : (of : ClosedType) (tag : ℕ) (home : Bytes) (linear : Bool) (t : Meaning)
           → types.fields t tag ≡ Some (types_made made) → Bears types owner see known of home linear t
-          → GoodHeld types owner permits (λ (v : Value) n. Ins h ((v, t) ∷ under) n)
+          → GoodHeld types owner permits (way ∷ ways) (λ (v : Value) n. Ins h ((v, t) ∷ under) n)
           (makes_value linear of tag home (values_of made) w ticks)
       made_good of tag home true t fields bears =
-          good_uncut owner (IsCutSo types owner permits) (λ (v : Value) n. Ins h ((v, t) ∷ under) n)
-              (makes_value true of tag home (values_of made) w ticks)
-              (laws.made_linear (a ∷ older) (frame h names ∷ fs) sizes under w ticks made t of tag
+          good_uncut owner (IsCutSo types owner permits (way ∷ ways)) (λ (v : Value) n. Ins h ((v, t) ∷ under) n)
+          (makes_value true of tag home (values_of made) w ticks)
+          (laws.made_linear (a ∷ older) (frame h names ∷ fs) sizes under w ticks made t of tag
           home fields bears.0 bears.1
           state)
       made_good of tag home false t fields bears =
-          good_uncut owner (IsCutSo types owner permits) (λ (v : Value) n. Ins h ((v, t) ∷ under) n)
-              (makes_value false of tag home (values_of made) w ticks)
-              (laws.made_free (a ∷ older) (frame h names ∷ fs) sizes under w ticks made t of tag
+          good_uncut owner (IsCutSo types owner permits (way ∷ ways)) (λ (v : Value) n. Ins h ((v, t) ∷ under) n)
+          (makes_value false of tag home (values_of made) w ticks)
+          (laws.made_free (a ∷ older) (frame h names ∷ fs) sizes under w ticks made t of tag
           home fields bears state)
 
       pub performs_good : (act : views.Act I) (t : Meaning)
           → Performs types owner see known active act (types_made made) t
-          → GoodHeld types owner permits (λ (v : Value) n. Ins h ((v, t) ∷ under) n)
+          → GoodHeld types owner permits (way ∷ ways) (λ (v : Value) n. Ins h ((v, t) ∷ under) n)
           (evaluator.acts see invoke act (values_of made) w ticks)
       performs_good (invokes one) t fits =
           let called =
@@ -394,26 +405,28 @@ module _ (types : Types) (owner : ClosedType → Option (List ℕ)) {V W : Type 
           (λ v n both. both.0)
           (calls_safe fits.0 (a ∷ older) (frame h names ∷ fs) sizes made under w ticks fits.4 (waits, waiting)
           running.count (sym fits.2) state) in
-          subst (λ (f : I). GoodHeld types owner permits (λ (v : Value) n. Ins h ((v, t) ∷ under) n)
-              (invoke f (values_of made) w ticks))
+          subst (λ (f : I). GoodHeld types owner permits (way ∷ ways) (λ (v : Value) n. Ins h ((v, t) ∷ under) n)
+          (invoke f (values_of made) w ticks))
           fits.1
-          (subst (λ (u : Meaning). GoodHeld types owner permits (λ (v : Value) n. Ins h ((v, u) ∷ under) n)
+          (subst (λ (u : Meaning). GoodHeld types owner permits (way ∷ ways) (λ (v : Value) n. Ins h ((v, u) ∷ under) n)
           (invoke (known.of fits.0) (values_of made) w ticks)) fits.3 called)
       performs_good (makes of tag home) t fits = made_good of tag home (see.is_linear of) t fits.0 fits.1
       performs_good (ships prim born) t fits =
           good_uncut owner _ (λ (v : Value) n. Ins h ((v, t) ∷ under) n)
-              (ships_call prim born (values_of made) w ticks)
-              (laws.shipped (a ∷ older) (frame h names ∷ fs) sizes under w ticks prim born made t
+          (ships_call prim born (values_of made) w ticks)
+          (laws.shipped (a ∷ older) (frame h names ∷ fs) sizes under w ticks prim born made t
           fits state)
 
       -- a call of what is known, whose arguments are brought so into declared order
       pub calls_good : (o : Option (Callee I)) (one : Callee I) (t : Meaning) (order : List Bytes → Option (List Value))
           → o ≡ Some one → order one.parameters ≡ Some (values_of made)
           → Performs types owner see known active one.act (types_made made) t
-          → GoodHeld types owner permits (λ (v : Value) n. Ins h ((v, t) ∷ under) n) (calls see invoke o order w ticks)
+          → GoodHeld types owner permits (way ∷ ways) (λ (v : Value) n. Ins h ((v, t) ∷ under) n)
+          (calls see invoke o order w ticks)
       calls_good o one t order is ordered fits =
           let q = λ (v : Value) (n : World). Ins h ((v, t) ∷ under) n in
-          subst (λ (p : Option (Callee I)). GoodHeld types owner permits q (calls see invoke p order w ticks)) (sym is)
+          subst (λ (p : Option (Callee I)). GoodHeld types owner permits (way ∷ ways) q
+          (calls see invoke p order w ticks)) (sym is)
           (good_needing owner _ q (order one.parameters) (values_of made) (evaluator.acts see invoke one.act) w ticks
           ordered
           (performs_good one.act t fits))

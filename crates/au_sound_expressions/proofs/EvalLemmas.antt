@@ -47,18 +47,20 @@ use Rattle.au_sound_expressions.proofs.PickLemmas.{length_types, types_under}
 use Rattle.au_running_judgements.specs.Held.{AllHeld, GoodHeld, Permits}
 
 module _ (types : Types) (owner : ClosedType → Option (List ℕ)) {V W : Type 0} (permits : Permits V W)
-    (laws : ActionsAreSafe types owner)
+    (way : V) (ways : List V) (laws : ActionsAreSafe types owner)
     (a : Act) (older : List Act) (names : ℕ → Meaning) (fs : List Frame) (sizes : List ℕ) (size : ℕ)
-    (running : IsRunning sizes fs size) (below : AllHeld permits fs) where
+    (running : IsRunning sizes fs size) (below : AllHeld permits ways fs) where
   abbrev Ins : Standing → Made → World → Type 0
-  Ins h under w = In types owner permits laws a older names fs sizes size running below h under w
+  Ins h under w = In types owner permits way ways laws a older names fs sizes size running below h under w
 
   abbrev Lefts : Meaning → Standing → (ℕ → ℕ) → (ℕ → Counts) → Made → Value → World → Type 0
-  Lefts t h consumed rest under v n = Left types owner permits laws a older names fs sizes size running below t h
+  Lefts t h consumed rest under v n = Left types owner permits way ways laws a older names fs sizes size running
+      below t h
       consumed rest under v n
 
   abbrev IsSafe : (ℕ → Counts) → (Meaning → Type 0) → Action Value → Type 0
-  IsSafe counts A action = Safe types owner permits laws a older names fs sizes size running below counts A action
+  IsSafe counts A action = Safe types owner permits way ways laws a older names fs sizes size running below counts A
+      action
 
   -- what arguments leave, and their values
   pub record AllLeft (kinds : List Meaning) (h : Standing) (consumed : ℕ → ℕ) (rest : ℕ → Counts) (under : Made)
@@ -66,14 +68,15 @@ module _ (types : Types) (owner : ClosedType → Option (List ℕ)) {V W : Type 
     pub made : Made
     pub are : vs ≡ values_of made
     pub have : types_made made ≡ kinds
-    pub after : After types owner permits (a ∷ older) names fs sizes a.token h consumed rest (onto made under) n
+    pub after : After types owner permits way (a ∷ older) names fs sizes a.token h consumed rest (onto made under) n
 
   -- arguments are safe
   abbrev pub AllSafe : (ℕ → Counts) → (List Meaning → Type 0) → Action (List Value) → Type 0
   AllSafe counts A action =
       (kinds : List Meaning) → A kinds → (rest : ℕ → Counts) (h : Standing) (under : Made) (w : World) (ticks : ℕ)
-      → AreReady h (λ k. plus (counts k) (rest k)) → Stands permits (is_active (a ∷ older)) h names → Ins h under w
-      → GoodHeld types owner permits (AllLeft kinds h (λ k. (counts k).consumed) rest under) (action w ticks)
+      → AreReady h (λ k. plus (counts k) (rest k)) → Stands permits way (is_active (a ∷ older)) h names → Ins h under w
+      → GoodHeld types owner permits (way ∷ ways) (AllLeft kinds h (λ k. (counts k).consumed) rest under)
+      (action w ticks)
 
   -- no arguments
   none_safe : AllSafe (λ k. unmentioned) (λ kinds. kinds ≡ []) (pure [])
@@ -81,7 +84,8 @@ module _ (types : Types) (owner : ClosedType → Option (List ℕ)) {V W : Type 
     made = [];
     are = refl;
     have = sym is;
-    after = stays types owner permits laws a older names fs sizes size running below (λ k. unmentioned) rest h under
+    after = stays types owner permits way ways laws a older names fs sizes size running below (λ k. unmentioned) rest
+        h under
         w (λ k. refl) met
         waits state;
   }
@@ -106,15 +110,15 @@ module _ (types : Types) (owner : ClosedType → Option (List ℕ)) {V W : Type 
         made = (v, t) ∷ second.made;
         are = ap (λ (xs : List Value). v ∷ xs) second.are;
         have = ap (λ (ts : List Meaning). t ∷ ts) second.have ∙ sym fits.2;
-        after = both_after types owner permits laws a older names fs sizes size running below h c d both rest
+        after = both_after types owner permits way ways laws a older names fs sizes size running below h c d both rest
             ((v, t) ∷ under)
             (onto second.made ((v, t) ∷ under)) (onto second.made ((v, t) ∷ under)) n m m first second.after
             second.after.state;
       }))
 
   module _ {I T C K : Type 0} (see : View I T C) (known : Callables I K) (invoke : I → List Value → Action Value)
-      (calls_safe : CallsSafe types owner permits known invoke)
-      (waiting : AllWait permits (is_active (a ∷ older)) fs) where
+      (calls_safe : CallsSafe types owner permits (way ∷ ways) known invoke)
+      (waiting : AllWait permits ways (is_active (a ∷ older)) fs) where
     abbrev Of : Scope → Expression Bytes T C → Meaning → Type 0
     Of scope e t = IsOf types owner see known names a.token (is_active (a ∷ older)) scope e t
 
@@ -144,9 +148,9 @@ module _ (types : Types) (owner : ClosedType → Option (List ℕ)) {V W : Type 
         let ordered : by_position (values_of all.made) one.parameters ≡ Some (values_of all.made) =
         ap (λ (b : Bool). if b then Some (values_of all.made) else None)
         (eq-eqb (length (values_of all.made)) (length one.parameters) many) in
-        subst (λ (xs : List Value). GoodHeld types owner permits q
-            (tick (calls see invoke o (by_position xs)) n left)) (sym all.are)
-        (ticks_well types owner permits laws a older names fs sizes size running below q
+        subst (λ (xs : List Value). GoodHeld types owner permits (way ∷ ways) q
+        (tick (calls see invoke o (by_position xs)) n left)) (sym all.are)
+        (ticks_well types owner permits way ways laws a older names fs sizes size running below q
         (calls see invoke o (by_position (values_of all.made))) all.after.hold (onto all.made under) n left
         all.after.waits all.after.state
         (λ more.
@@ -159,7 +163,8 @@ module _ (types : Types) (owner : ClosedType → Option (List ℕ)) {V W : Type 
           waits = all.after.waits;
           state = good;
         })
-        (calls_good types owner permits laws a older names fs sizes size running below see known invoke calls_safe
+        (calls_good types owner permits way ways laws a older names fs sizes size running below see known invoke
+        calls_safe
         waiting all.after.hold
         all.made under n more all.after.waits all.after.state o one t (by_position (values_of all.made)) fits.2 ordered
         (subst (λ (ks : List Meaning). Performs types owner see known (is_active (a ∷ older)) one.act ks t)
@@ -190,12 +195,12 @@ module _ (types : Types) (owner : ClosedType → Option (List ℕ)) {V W : Type 
         types_under one.parameters names_given all.made brought.0 fits.2 brought.3
         (subst (λ (ks : List Meaning). AreTypesUnder one.parameters names_given ks fits.2) (sym all.have) fits.7) in
         let placed = laws.reordered (a ∷ older) (frame all.after.hold names ∷ fs) sizes under n all.made brought.0
-            brought.2
+        brought.2
         all.after.state in
-        subst (λ (xs : List Value). GoodHeld types owner permits q
-            (tick (calls see invoke o (by_labels (labelled names_given xs))) n left))
+        subst (λ (xs : List Value). GoodHeld types owner permits (way ∷ ways) q
+        (tick (calls see invoke o (by_labels (labelled names_given xs))) n left))
         (sym all.are)
-        (ticks_well types owner permits laws a older names fs sizes size running below q
+        (ticks_well types owner permits way ways laws a older names fs sizes size running below q
         (calls see invoke o (by_labels (labelled names_given (values_of all.made)))) all.after.hold
         (onto brought.0 under) n
         left all.after.waits placed
@@ -209,7 +214,8 @@ module _ (types : Types) (owner : ClosedType → Option (List ℕ)) {V W : Type 
           waits = all.after.waits;
           state = good;
         })
-        (calls_good types owner permits laws a older names fs sizes size running below see known invoke calls_safe
+        (calls_good types owner permits way ways laws a older names fs sizes size running below see known invoke
+        calls_safe
         waiting all.after.hold
         brought.0 under n more all.after.waits placed o one t (by_labels (labelled names_given (values_of all.made)))
         fits.3
@@ -228,30 +234,30 @@ module _ (types : Types) (owner : ClosedType → Option (List ℕ)) {V W : Type 
       pub eval_safe : (scope : Scope) (e : Expression Bytes T C)
           → IsSafe (λ k. uses see k scope e) (Of scope e) (eval see invoke scope e)
       eval_safe scope (number n l) =
-          literal_safe types owner permits laws a older names fs sizes size running below
+          literal_safe types owner permits way ways laws a older names fs sizes size running below
           (kind_in (see.type_of n.note)) l.value
       eval_safe scope (negative n l) =
-          literal_safe types owner permits laws a older names fs sizes size running below
+          literal_safe types owner permits way ways laws a older names fs sizes size running below
           (kind_in (see.type_of n.note)) (neg_ℤ l.value)
       eval_safe scope (text n bytes) = λ t is.
-          plain_safe types owner permits laws a older names fs sizes size running below (values.text bytes) t
+          plain_safe types owner permits way ways laws a older names fs sizes size running below (values.text bytes) t
           (subst (IsPlain (values.text bytes)) (sym is) tt)
       eval_safe scope (truth n b) = λ t is.
-          plain_safe types owner permits laws a older names fs sizes size running below (values.truth b) t
+          plain_safe types owner permits way ways laws a older names fs sizes size running below (values.truth b) t
           (subst (IsPlain (values.truth b)) (sym is) tt)
       eval_safe scope (nil n) = λ t is.
-          plain_safe types owner permits laws a older names fs sizes size running below values.unit t
+          plain_safe types owner permits way ways laws a older names fs sizes size running below values.unit t
           (subst (IsPlain values.unit) (sym is) tt)
       eval_safe scope (path n x []) =
-          mention_safe types owner permits laws a older names fs sizes size running below see known
+          mention_safe types owner permits way ways laws a older names fs sizes size running below see known
           (variable_of scope x.name) n.note
           x.name
       eval_safe scope (path n x (field ∷ fields)) =
-          into_safe types owner permits laws a older names fs sizes size running below see known
+          into_safe types owner permits way ways laws a older names fs sizes size running below see known
           (variable_of scope x.name)
           (names_of (field ∷ fields))
       eval_safe scope (arrow n r fields) =
-          arrow_safe types owner permits laws a older names fs sizes size running below see known
+          arrow_safe types owner permits way ways laws a older names fs sizes size running below see known
           (variable_of scope r.name)
           (names_of fields)
       eval_safe scope (call n f args c) =
@@ -262,28 +268,31 @@ module _ (types : Types) (owner : ClosedType → Option (List ℕ)) {V W : Type 
           (AllNamed scope args) (many_named scope args) (eval_named see invoke scope args) (named_safe scope args)
       eval_safe scope (parenthesized n e) = eval_safe scope e
       eval_safe scope (dereference n e) =
-          deref_safe types owner permits laws a older names fs sizes size running below see known (alone scope e)
+          deref_safe types owner permits way ways laws a older names fs sizes size running below see known
+          (alone scope e)
           (λ k. uses see k scope e) (Of scope e) (eval see invoke scope e) (eval_safe scope e)
       eval_safe scope (borrow n m x) =
-          borrow_safe types owner permits laws a older names fs sizes size running below see known m
+          borrow_safe types owner permits way ways laws a older names fs sizes size running below see known m
           (variable_of scope x.name)
       eval_safe scope (borrow_part n r fields) =
-          part_safe types owner permits laws a older names fs sizes size running below see known
+          part_safe types owner permits way ways laws a older names fs sizes size running below see known
           (variable_of scope r.name)
           (names_of fields)
       eval_safe scope (binary n op one two) =
-          joins_safe types owner permits laws a older names fs sizes size running below see known invoke n.note
+          joins_safe types owner permits way ways laws a older names fs sizes size running below see known invoke n.note
           (note_of one)
           (λ k. uses see k scope one) (λ k. uses see k scope two) (Of scope one) (Of scope two)
           (eval see invoke scope one) (eval see invoke scope two) (eval_safe scope one) (eval_safe scope two)
           (operation_of op)
       eval_safe scope (negation n e) =
-          negation_safe types owner permits laws a older names fs sizes size running below (λ k. uses see k scope e)
+          negation_safe types owner permits way ways laws a older names fs sizes size running below
+          (λ k. uses see k scope e)
           (Of scope e)
           (eval see invoke scope e) (eval_safe scope e)
       eval_safe scope (typed n e written) = eval_safe scope e
       eval_safe scope (choice n c one two) = λ t fits rest h under w ticks met waits state.
-          chosen_safe types owner permits laws a older names fs sizes size running below (λ k. uses see k scope c)
+          chosen_safe types owner permits way ways laws a older names fs sizes size running below
+          (λ k. uses see k scope c)
           (λ k. uses see k scope one) (λ k. uses see k scope two) (Of scope one) (Of scope two)
           (eval see invoke scope one) (eval see invoke scope two) (eval_safe scope one) (eval_safe scope two)
           (λ k. (fits.3 k).0) (λ k. (fits.3 k).1) t fits.1 fits.2 rest h under (eval see invoke scope c) w ticks

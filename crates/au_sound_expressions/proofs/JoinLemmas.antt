@@ -39,18 +39,20 @@ truth_is (values.terminal id) is = absurd is
 truth_is (values.root id) is = absurd is
 
 module _ (types : Types) (owner : ClosedType → Option (List ℕ)) {V W : Type 0} (permits : Permits V W)
-    (laws : ActionsAreSafe types owner)
+    (way : V) (ways : List V) (laws : ActionsAreSafe types owner)
     (a : Act) (older : List Act) (names : ℕ → Meaning) (fs : List Frame) (sizes : List ℕ) (size : ℕ)
-    (running : IsRunning sizes fs size) (below : AllHeld permits fs) where
+    (running : IsRunning sizes fs size) (below : AllHeld permits ways fs) where
   abbrev Ins : Standing → Made → World → Type 0
-  Ins h under w = In types owner permits laws a older names fs sizes size running below h under w
+  Ins h under w = In types owner permits way ways laws a older names fs sizes size running below h under w
 
   abbrev Lefts : Meaning → Standing → (ℕ → ℕ) → (ℕ → Counts) → Made → Value → World → Type 0
-  Lefts t h consumed rest under v n = Left types owner permits laws a older names fs sizes size running below t h
+  Lefts t h consumed rest under v n = Left types owner permits way ways laws a older names fs sizes size running
+      below t h
       consumed rest under v n
 
   abbrev IsSafe : (ℕ → Counts) → (Meaning → Type 0) → Action Value → Type 0
-  IsSafe counts A action = Safe types owner permits laws a older names fs sizes size running below counts A action
+  IsSafe counts A action = Safe types owner permits way ways laws a older names fs sizes size running below counts A
+      action
 
   -- ---- `not`
 
@@ -59,11 +61,12 @@ module _ (types : Types) (owner : ClosedType → Option (List ℕ)) {V W : Type 
   negation_safe counts A one safe t fits rest h under w ticks met waits state =
       let consumed = λ (k : ℕ). (counts k).consumed in
       let q = Lefts type.truth h consumed rest under in
-      subst (λ (u : Meaning). GoodHeld types owner permits (Lefts u h consumed rest under)
+      subst (λ (u : Meaning). GoodHeld types owner permits (way ∷ ways) (Lefts u h consumed rest under)
       (follows (one w ticks) (λ x. tick (comes (negated x))))) (sym fits.1)
       (good_then owner _ (Lefts type.truth h consumed rest under) q (one w ticks) (λ x. tick (comes (negated x)))
       (safe type.truth fits.0 rest h under w ticks met waits state) (λ x n left after.
-      ticks_well types owner permits laws a older names fs sizes size running below q (comes (negated x)) after.hold
+      ticks_well types owner permits way ways laws a older names fs sizes size running below q (comes (negated x))
+      after.hold
       ((x, type.truth) ∷ under) n left after.waits after.state (λ more.
       good_so owner _ (λ (v : Value) m. Ins after.hold ((v, type.truth) ∷ under) m) q (comes (negated x) n more)
       (λ v m good. record {
@@ -84,11 +87,11 @@ module _ (types : Types) (owner : ClosedType → Option (List ℕ)) {V W : Type 
       → (s u t : Meaning) → A s → B u → (go : Value → Value → Action Value)
       → ((x y : Value) (h : Standing) (under : Made) (n : World) (left : ℕ)
       → Ins h ((y, u) ∷ (x, s) ∷ under) n
-      → GoodHeld types owner permits (λ (v : Value) m. Ins h ((v, t) ∷ under) m) (go x y n left))
+      → GoodHeld types owner permits (way ∷ ways) (λ (v : Value) m. Ins h ((v, t) ∷ under) m) (go x y n left))
       → (rest : ℕ → Counts) (h : Standing) (under : Made) (w : World) (ticks : ℕ)
-      → AreReady h (λ k. plus (plus (ca k) (cb k)) (rest k)) → Stands permits (is_active (a ∷ older)) h names
+      → AreReady h (λ k. plus (plus (ca k) (cb k)) (rest k)) → Stands permits way (is_active (a ∷ older)) h names
       → Ins h under w
-      → GoodHeld types owner permits (Lefts t h (λ k. (ca k).consumed + (cb k).consumed) rest under)
+      → GoodHeld types owner permits (way ∷ ways) (Lefts t h (λ k. (ca k).consumed + (cb k).consumed) rest under)
       (follows (one w ticks) (λ x. two >>= (λ y. tick (go x y))))
   two_safe ca cb A B one two safe_one safe_two s u t fits_one fits_two go goes rest h under w ticks met waits state =
       let c = λ (k : ℕ). (ca k).consumed in
@@ -100,11 +103,12 @@ module _ (types : Types) (owner : ClosedType → Option (List ℕ)) {V W : Type 
       good_then owner _ (Lefts u first.hold d rest ((x, s) ∷ under)) q (two n left) (λ y. tick (go x y))
       (safe_two u fits_two rest first.hold ((x, s) ∷ under) n left first.met first.waits first.state)
       (λ y m more second.
-      ticks_well types owner permits laws a older names fs sizes size running below q (go x y) second.hold
+      ticks_well types owner permits way ways laws a older names fs sizes size running below q (go x y) second.hold
       ((y, u) ∷ (x, s) ∷ under) m
       more second.waits second.state (λ last.
       good_so owner _ (λ (v : Value) p. Ins second.hold ((v, t) ∷ under) p) q (go x y m last)
-      (λ v p good. both_after types owner permits laws a older names fs sizes size running below h c d both rest
+      (λ v p good. both_after types owner permits way ways laws a older names fs sizes size running below h c d both
+      rest
       ((x, s) ∷ under)
       ((y, u) ∷ (x, s) ∷ under) ((v, t) ∷ under) n m p first second good)
       (goes x y second.hold under m last second.state))))
@@ -115,10 +119,11 @@ module _ (types : Types) (owner : ClosedType → Option (List ℕ)) {V W : Type 
   pub chosen_safe : (ca cb cc : ℕ → Counts) (A B : Meaning → Type 0) (one two : Action Value) → IsSafe cb A one
       → IsSafe cc B two → ((k : ℕ) → (cb k).consumed ≡ 0) → ((k : ℕ) → (cc k).consumed ≡ 0) → (t : Meaning) → A t → B t
       → (rest : ℕ → Counts) (h : Standing) (under : Made) (test : Action Value) (w : World) (ticks : ℕ)
-      → GoodHeld types owner permits (Lefts type.truth h (λ k. (ca k).consumed)
+      → GoodHeld types owner permits (way ∷ ways) (Lefts type.truth h (λ k. (ca k).consumed)
       (λ k. plus (plus (cb k) (cc k)) (rest k)) under)
       (test w ticks)
-      → GoodHeld types owner permits (Lefts t h (λ k. (ca k).consumed + ((cb k).consumed + (cc k).consumed)) rest under)
+      → GoodHeld types owner permits (way ∷ ways) (Lefts t h (λ k. (ca k).consumed +
+      ((cb k).consumed + (cc k).consumed)) rest under)
       (follows (test w ticks) (λ x. tick (chosen one two x)))
   chosen_safe ca cb cc A B one two safe_one safe_two none_one none_two t fits_one fits_two rest h under test w
       ticks good =
@@ -130,10 +135,11 @@ module _ (types : Types) (owner : ClosedType → Option (List ℕ)) {V W : Type 
       (λ x n left first.
       let truth = laws.truths (a ∷ older) (frame first.hold names ∷ fs) sizes under n x first.state in
       let is = truth_is x truth.0 in
-      ticks_well types owner permits laws a older names fs sizes size running below q (chosen one two x) first.hold
+      ticks_well types owner permits way ways laws a older names fs sizes size running below q (chosen one two x)
+      first.hold
       ((x, type.truth) ∷ under) n left first.waits first.state (λ more.
-      subst (λ (y : Value). GoodHeld types owner permits q (chosen one two y n more)) (sym is.1)
-          (by x n first truth.1 more is.0)))
+      subst (λ (y : Value). GoodHeld types owner permits (way ∷ ways) q (chosen one two y n more)) (sym is.1)
+      (by x n first truth.1 more is.0)))
     where
       last : (x : Value) (n : World)
           (first : Lefts type.truth h (λ k. (ca k).consumed) (λ k. plus (plus (cb k) (cc k)) (rest k)) under x n)
@@ -141,8 +147,8 @@ module _ (types : Types) (owner : ClosedType → Option (List ℕ)) {V W : Type 
           → Lefts t first.hold (λ k. (ce k).consumed) rest under v m
           → Lefts t h (λ k. (ca k).consumed + ((cb k).consumed + (cc k).consumed)) rest under v m
       last x n first ce none v m second =
-          let so = both_after types owner permits laws a older names fs sizes size running below h
-              (λ k. (ca k).consumed)
+          let so = both_after types owner permits way ways laws a older names fs sizes size running below h
+          (λ k. (ca k).consumed)
           (λ k. (ce k).consumed) (λ k. plus (plus (cb k) (cc k)) (rest k)) rest ((x, type.truth) ∷ under)
           ((v, t) ∷ under) ((v, t) ∷ under) n m m first second second.state in
           record {
@@ -164,7 +170,8 @@ module _ (types : Types) (owner : ClosedType → Option (List ℕ)) {V W : Type 
       by : (x : Value) (n : World)
           (first : Lefts type.truth h (λ k. (ca k).consumed) (λ k. plus (plus (cb k) (cc k)) (rest k)) under x n)
           → Ins first.hold under n → (more : ℕ) (b : Bool)
-          → GoodHeld types owner permits (Lefts t h (λ k. (ca k).consumed + ((cb k).consumed + (cc k).consumed)) rest
+          → GoodHeld types owner permits (way ∷ ways) (Lefts t h
+          (λ k. (ca k).consumed + ((cb k).consumed + (cc k).consumed)) rest
           under)
           (chosen one two (values.truth b) n more)
       by x n first state more true =

@@ -21,10 +21,10 @@ pub expressions_safe : (types : Types) (owner : ClosedType → Option (List ℕ)
     (permits : Permits V W) {I T C K : Type 0} (see : View I T C) (known : Callables I K)
     (invoke : I → List Value → Action Value)
     → ExpressionsAreSafe types owner permits see known invoke
-expressions_safe types owner permits see known invoke laws calls_safe acts names fs sizes size running waiting
+expressions_safe types owner permits see known invoke laws way ways calls_safe acts names fs sizes size running waiting
     scope e t h under w ticks fits met waits state =
     good_so owner _
-    (Gave types owner permits laws acts names fs sizes size running see known invoke calls_safe waiting
+    (Gave types owner permits way ways laws acts names fs sizes size running see known invoke calls_safe waiting
     (λ (u : Meaning). u ≡ t)
     (λ k. spent (uses see k scope e).consumed (h k)) under (lying_in w))
     (λ (v : Value) n.
@@ -37,5 +37,5 @@ expressions_safe types owner permits see known invoke laws calls_safe acts names
           gave.is gave.state,
       gave.same,
     ))
-    (whole_safe types owner permits laws acts names fs sizes size running see known invoke calls_safe waiting
+    (whole_safe types owner permits way ways laws acts names fs sizes size running see known invoke calls_safe waiting
     (λ (u : Meaning). u ≡ t) scope e h under w ticks (λ z off. (t, refl, fits z off)) met waits state)

@@ -55,9 +55,9 @@ length_values [] = refl
 length_values (v ∷ vs) = ap suc (length_values vs)
 
 module _ (types : Types) (owner : ClosedType → Option (List ℕ)) {V W : Type 0} (permits : Permits V W)
-    (laws : ActionsAreSafe types owner)
+    (way : V) (ways : List V) (laws : ActionsAreSafe types owner)
     (a : Act) (older : List Act) (names : ℕ → Meaning) (fs : List Frame) (sizes : List ℕ) (size : ℕ)
-    (running : IsRunning sizes fs size) (below : AllHeld permits fs) where
+    (running : IsRunning sizes fs size) (below : AllHeld permits ways fs) where
   -- the running frame stands so, with these values under way
   abbrev pub In : Standing → Made → World → Type 0
   In h under w = IsIn types owner (a ∷ older) (frame h names ∷ fs) sizes under w
@@ -65,21 +65,21 @@ module _ (types : Types) (owner : ClosedType → Option (List ℕ)) {V W : Type 
   -- what an expression leaves, and its value
   abbrev pub Left : Meaning → Standing → (ℕ → ℕ) → (ℕ → Counts) → Made → Value → World → Type 0
   Left t h consumed rest under v n =
-      After types owner permits (a ∷ older) names fs sizes a.token h consumed rest ((v, t) ∷ under) n
+      After types owner permits way (a ∷ older) names fs sizes a.token h consumed rest ((v, t) ∷ under) n
 
   -- An action that meets names so often, and comes to a value of a type of which this holds, is safe.
   abbrev pub Safe : (ℕ → Counts) → (Meaning → Type 0) → Action Value → Type 0
   Safe counts A action =
       (t : Meaning) → A t → (rest : ℕ → Counts) (h : Standing) (under : Made) (w : World) (ticks : ℕ)
-      → AreReady h (λ k. plus (counts k) (rest k)) → Stands permits (is_active (a ∷ older)) h names → In h under w
-      → GoodHeld types owner permits (Left t h (λ k. (counts k).consumed) rest under) (action w ticks)
+      → AreReady h (λ k. plus (counts k) (rest k)) → Stands permits way (is_active (a ∷ older)) h names → In h under w
+      → GoodHeld types owner permits (way ∷ ways) (Left t h (λ k. (counts k).consumed) rest under) (action w ticks)
 
   -- ---- where names stay as they are
 
   pub stays : (counts rest : ℕ → Counts) (h : Standing) (made : Made) (n : World)
       → ((k : ℕ) → (counts k).consumed ≡ 0) → AreReady h (λ k. plus (counts k) (rest k))
-      → Stands permits (is_active (a ∷ older)) h names → In h made n
-      → After types owner permits (a ∷ older) names fs sizes a.token h (λ k. (counts k).consumed) rest made n
+      → Stands permits way (is_active (a ∷ older)) h names → In h made n
+      → After types owner permits way (a ∷ older) names fs sizes a.token h (λ k. (counts k).consumed) rest made n
   stays counts rest h made n none met waits state = record {
     hold = h;
     met = rest_ready h counts rest met;
@@ -90,33 +90,38 @@ module _ (types : Types) (owner : ClosedType → Option (List ℕ)) {V W : Type 
 
   pub good_stays : (counts rest : ℕ → Counts) (h : Standing) (t : Meaning) (under : Made) (out : Out Value)
       → ((k : ℕ) → (counts k).consumed ≡ 0) → AreReady h (λ k. plus (counts k) (rest k))
-      → Stands permits (is_active (a ∷ older)) h names → GoodHeld types owner permits
+      → Stands permits way (is_active (a ∷ older)) h names → GoodHeld types owner permits (way ∷ ways)
       (λ (v : Value) n. In h ((v, t) ∷ under) n) out
-      → GoodHeld types owner permits (Left t h (λ k. (counts k).consumed) rest under) out
+      → GoodHeld types owner permits (way ∷ ways) (Left t h (λ k. (counts k).consumed) rest under) out
   good_stays counts rest h t under out none met waits good =
       good_so owner _ (λ (v : Value) n. In h ((v, t) ∷ under) n) (Left t h (λ k. (counts k).consumed) rest under) out
       (λ v n state. stays counts rest h ((v, t) ∷ under) n none met waits state) good
 
   -- a tick in a world that is as it should be
   pub ticks_well : {A : Type 0} (q : A → World → Type 0) (m : Action A) (h : Standing) (under : Made) (w : World)
-      (ticks : ℕ) → Stands permits (is_active (a ∷ older)) h names → In h under w
-      → ((left : ℕ) → GoodHeld types owner permits q (m w left)) → GoodHeld types owner permits q (tick m w ticks)
+      (ticks : ℕ) → Stands permits way (is_active (a ∷ older)) h names → In h under w
+      → ((left : ℕ) → GoodHeld types owner permits (way ∷ ways) q (m w left)) → GoodHeld types owner permits
+      (way ∷ ways) q (tick m w ticks)
   ticks_well q m h under w ticks waits state next =
-      good_tick owner _ q m w ticks (laws.told (a ∷ older) (frame h names ∷ fs) sizes under w state, record {
-        acts = a ∷ older;
-        frames = frame h names ∷ fs;
-        sizes = sizes;
-        under = under;
-        state = state;
-        held = (waits.1, below);
-      }) next
+      good_tick owner _ q m w ticks (
+        laws.told (a ∷ older) (frame h names ∷ fs) sizes under w state,
+        record {
+          newer = [];
+          acts = a ∷ older;
+          frames = frame h names ∷ fs;
+          sizes = sizes;
+          under = under;
+          state = state;
+          held = (waits.1, below);
+        },
+      ) next
 
   -- one expression, and then another
   pub both_after : (h : Standing) (c d : ℕ → ℕ) (between rest : ℕ → Counts) (made two three : Made) (n m p : World)
-      (first : After types owner permits (a ∷ older) names fs sizes a.token h c between made n)
-      (second : After types owner permits (a ∷ older) names fs sizes a.token first.hold d rest two m)
+      (first : After types owner permits way (a ∷ older) names fs sizes a.token h c between made n)
+      (second : After types owner permits way (a ∷ older) names fs sizes a.token first.hold d rest two m)
       → In second.hold three p
-      → After types owner permits (a ∷ older) names fs sizes a.token h (λ k. c k + d k) rest three p
+      → After types owner permits way (a ∷ older) names fs sizes a.token h (λ k. c k + d k) rest three p
   both_after h c d between rest made two three n m p first second state = record {
     hold = second.hold;
     met = second.met;
@@ -130,7 +135,7 @@ module _ (types : Types) (owner : ClosedType → Option (List ℕ)) {V W : Type 
   -- a value that holds nothing
   pub plain_left : (v : Value) (t : Meaning) → IsPlain v t → (rest : ℕ → Counts) (h : Standing) (under : Made)
       (w : World)
-      → AreReady h (λ k. plus unmentioned (rest k)) → Stands permits (is_active (a ∷ older)) h names → In h under w
+      → AreReady h (λ k. plus unmentioned (rest k)) → Stands permits way (is_active (a ∷ older)) h names → In h under w
       → Left t h (λ k. 0) rest under v w
   plain_left v t is rest h under w met waits state =
       stays (λ k. unmentioned) rest h ((v, t) ∷ under) w (λ k. refl) met waits
@@ -182,13 +187,13 @@ module _ (types : Types) (owner : ClosedType → Option (List ℕ)) {V W : Type 
       look_safe x [] t (fits.0, fits.1 refl) rest h under w ticks met waits state
   copies_safe false x t fits rest h under w ticks met waits state =
       let is = is_ready (h x.number) (ready.consumes (stand (h x.number)) (rest x.number)
-          (met_own x one_consumption h rest met)).0 in
-      let moved = good_uncut owner (IsCutSo types owner permits)
+      (met_own x one_consumption h rest met)).0 in
+      let moved = good_uncut owner (IsCutSo types owner permits (way ∷ ways))
       (λ (v : Value) n. In (λ k. if x.number == k then empty else h k) ((v, names x.number) ∷ under) n)
       (moves x.number w ticks)
       (laws.moved (a ∷ older) (frame h names) fs sizes size under w ticks running x.number is state) in
       let after = λ (k : ℕ). if x.number == k then empty else h k in
-      subst (λ (u : Meaning). GoodHeld types owner permits
+      subst (λ (u : Meaning). GoodHeld types owner permits (way ∷ ways)
       (Left u h (λ k. (where_of k (Some x) one_consumption).consumed) rest under) (moves x.number w ticks)) fits.0
       (good_so owner _ (λ (v : Value) n. In after ((v, names x.number) ∷ under) n)
       (Left (names x.number) h (λ k. (where_of k (Some x) one_consumption).consumed) rest under)
@@ -196,20 +201,22 @@ module _ (types : Types) (owner : ClosedType → Option (List ℕ)) {V W : Type 
         hold = after;
         met = met_moved x h rest met;
         gone = gone_moved a.token x h;
-        waits = stands_put permits (is_active (a ∷ older)) x.number empty h names tt (λ empty_so. refl) waits;
+        waits = stands_put permits way (is_active (a ∷ older)) x.number empty h names tt (λ empty_so. refl) waits;
         state = state;
       }) moved)
 
   -- ---- borrows
 
   module _ (x : Variable) (rest : ℕ → Counts) (h : Standing) (under : Made) (w : World) (ticks : ℕ)
-      (waits : Stands permits (is_active (a ∷ older)) h names) where
+      (waits : Stands permits way (is_active (a ∷ older)) h names) where
     -- a name that was lent to write, by whichever law
     pub shut_left : (t : Meaning) (out : Out Value)
         → AreReady h (λ k. plus (where_of k (Some x) (borrowed_by mode.Write)) (rest k)) → h x.number ≡ forest.ready
-        → GoodHeld types owner permits (λ (v : Value) n. In (λ k. if x.number == k then shut a.token else h k)
+        → GoodHeld types owner permits (way ∷ ways) (λ (v : Value) n. In
+        (λ k. if x.number == k then shut a.token else h k)
         ((v, t) ∷ under) n) out
-        → GoodHeld types owner permits (Left t h (λ k. (where_of k (Some x) (borrowed_by mode.Write)).consumed) rest
+        → GoodHeld types owner permits (way ∷ ways) (Left t h
+        (λ k. (where_of k (Some x) (borrowed_by mode.Write)).consumed) rest
         under) out
     shut_left t out met is good =
         good_so owner _
@@ -218,7 +225,7 @@ module _ (types : Types) (owner : ClosedType → Option (List ℕ)) {V W : Type 
           hold = λ (k : ℕ). if x.number == k then shut a.token else h k;
           met = met_lent a.token x h rest met;
           gone = λ k. gone_lent a.token x h k is;
-          waits = stands_put permits (is_active (a ∷ older)) x.number (shut a.token) h names (own_active a older)
+          waits = stands_put permits way (is_active (a ∷ older)) x.number (shut a.token) h names (own_active a older)
               (λ (none : h x.number ≡ empty). absurd cc) waits;
           state = state;
         }) good
@@ -226,10 +233,11 @@ module _ (types : Types) (owner : ClosedType → Option (List ℕ)) {V W : Type 
     -- one that was lent to read
     pub watched_left : (t : Meaning) (out : Out Value)
         → AreReady h (λ k. plus (where_of k (Some x) (borrowed_by mode.Read)) (rest k)) → IsReadable (h x.number)
-        → GoodHeld types owner permits
+        → GoodHeld types owner permits (way ∷ ways)
         (λ (v : Value) n. In (λ k. if x.number == k then also_watched a.token (h x.number) else h k) ((v, t) ∷ under) n)
         out
-        → GoodHeld types owner permits (Left t h (λ k. (where_of k (Some x) (borrowed_by mode.Read)).consumed) rest
+        → GoodHeld types owner permits (way ∷ ways) (Left t h
+        (λ k. (where_of k (Some x) (borrowed_by mode.Read)).consumed) rest
         under) out
     watched_left t out met is good =
         good_so owner _
@@ -238,7 +246,7 @@ module _ (types : Types) (owner : ClosedType → Option (List ℕ)) {V W : Type 
           hold = λ (k : ℕ). if x.number == k then also_watched a.token (h x.number) else h k;
           met = met_read a.token x h rest is met;
           gone = λ k. gone_read a.token x h k is;
-          waits = stands_put permits (is_active (a ∷ older)) x.number (also_watched a.token (h x.number)) h names
+          waits = stands_put permits way (is_active (a ∷ older)) x.number (also_watched a.token (h x.number)) h names
               (waits_watched (is_active (a ∷ older)) a.token (h x.number) (own_active a older) (waits.0 x.number))
               (λ none. ap (also_watched a.token) none) waits;
           state = state;

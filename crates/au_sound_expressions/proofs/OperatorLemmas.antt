@@ -33,18 +33,20 @@ use Rattle.au_sound_expressions.proofs.LeafLemmas.{In, Left, Safe, plain_left}
 use Rattle.au_running_judgements.specs.Held.{AllHeld, GoodHeld, Permits}
 
 module _ (types : Types) (owner : ClosedType → Option (List ℕ)) {V W : Type 0} (permits : Permits V W)
-    (laws : ActionsAreSafe types owner)
+    (way : V) (ways : List V) (laws : ActionsAreSafe types owner)
     (a : Act) (older : List Act) (names : ℕ → Meaning) (fs : List Frame) (sizes : List ℕ) (size : ℕ)
-    (running : IsRunning sizes fs size) (below : AllHeld permits fs) where
+    (running : IsRunning sizes fs size) (below : AllHeld permits ways fs) where
   abbrev Ins : Standing → Made → World → Type 0
-  Ins h under w = In types owner permits laws a older names fs sizes size running below h under w
+  Ins h under w = In types owner permits way ways laws a older names fs sizes size running below h under w
 
   abbrev Lefts : Meaning → Standing → (ℕ → ℕ) → (ℕ → Counts) → Made → Value → World → Type 0
-  Lefts t h consumed rest under v n = Left types owner permits laws a older names fs sizes size running below t h
+  Lefts t h consumed rest under v n = Left types owner permits way ways laws a older names fs sizes size running
+      below t h
       consumed rest under v n
 
   abbrev IsSafe : (ℕ → Counts) → (Meaning → Type 0) → Action Value → Type 0
-  IsSafe counts A action = Safe types owner permits laws a older names fs sizes size running below counts A action
+  IsSafe counts A action = Safe types owner permits way ways laws a older names fs sizes size running below counts A
+      action
 
   -- as much is consumed, said in another way
   recounted : (t : Meaning) (h : Standing) (c d : ℕ → ℕ) (rest : ℕ → Counts) (under : Made) (v : Value) (n : World)
@@ -60,7 +62,8 @@ module _ (types : Types) (owner : ClosedType → Option (List ℕ)) {V W : Type 
   -- a value that holds nothing, without a tick
   pure_safe : (v : Value) → IsSafe (λ k. unmentioned) (IsPlain v) (pure v)
   pure_safe v t is rest h under w ticks met waits state =
-      plain_left types owner permits laws a older names fs sizes size running below v t is rest h under w met waits
+      plain_left types owner permits way ways laws a older names fs sizes size running below v t is rest h under w
+      met waits
       state
 
   module _ {I T C K : Type 0} (see : View I T C) (known : Callables I K) (invoke : I → List Value → Action Value)
@@ -74,10 +77,11 @@ module _ (types : Types) (owner : ClosedType → Option (List ℕ)) {V W : Type 
     joins_safe (computes op) t fits rest h under w ticks met waits state =
         let kind = fits.0 in
         let go = λ (x y : Value). operates see (computes op) whole first x y in
-        subst (λ (u : Meaning). GoodHeld types owner permits (Lefts u h (λ k. (ca k).consumed + (cb k).consumed) rest
-            under)
+        subst (λ (u : Meaning). GoodHeld types owner permits (way ∷ ways)
+        (Lefts u h (λ k. (ca k).consumed + (cb k).consumed) rest
+        under)
         (follows (one w ticks) (λ x. two >>= (λ y. tick (operates see (computes op) whole first x y))))) (sym fits.4)
-        (two_safe types owner permits laws a older names fs sizes size running below ca cb A B one two safe_one
+        (two_safe types owner permits way ways laws a older names fs sizes size running below ca cb A B one two safe_one
         safe_two (integer kind)
         (integer kind) (integer kind) fits.2 fits.3 (λ x y. operates see (computes op) whole first x y)
         (λ x y g more n left both.
@@ -89,18 +93,21 @@ module _ (types : Types) (owner : ClosedType → Option (List ℕ)) {V W : Type 
         rest h under w ticks met waits
         state)
     joins_safe (compares op) t fits rest h under w ticks met waits state =
-        subst (λ (u : Meaning). GoodHeld types owner permits (Lefts u h (λ k. (ca k).consumed + (cb k).consumed) rest
-            under)
+        subst (λ (u : Meaning). GoodHeld types owner permits (way ∷ ways)
+        (Lefts u h (λ k. (ca k).consumed + (cb k).consumed) rest
+        under)
         (follows (one w ticks) (λ x. two >>= (λ y. tick (operates see (compares op) whole first x y))))) (sym fits.0)
         (by fits.1)
       where
         by : ((kind : IntKind) × (compared_kind (see.type_of first) ≡ Some (Some kind)) × A (integer kind)
             × B (integer kind))
             ⊎ ((compared_kind (see.type_of first) ≡ Some None) × IsEquality op × A type.truth × B type.truth)
-            → GoodHeld types owner permits (Lefts type.truth h (λ k. (ca k).consumed + (cb k).consumed) rest under)
+            → GoodHeld types owner permits (way ∷ ways) (Lefts type.truth h (λ k. (ca k).consumed + (cb k).consumed)
+            rest under)
             (follows (one w ticks) (λ x. two >>= (λ y. tick (operates see (compares op) whole first x y))))
         by (inl of) =
-            two_safe types owner permits laws a older names fs sizes size running below ca cb A B one two safe_one
+            two_safe types owner permits way ways laws a older names fs sizes size running below ca cb A B one two
+            safe_one
             safe_two
             (integer of.0) (integer of.0) type.truth of.2 of.3 (λ x y. operates see (compares op) whole first x y)
             (λ x y g more n left both.
@@ -112,7 +119,8 @@ module _ (types : Types) (owner : ClosedType → Option (List ℕ)) {V W : Type 
             both))) rest h under w ticks met
             waits state
         by (inr of) =
-            two_safe types owner permits laws a older names fs sizes size running below ca cb A B one two safe_one
+            two_safe types owner permits way ways laws a older names fs sizes size running below ca cb A B one two
+            safe_one
             safe_two type.truth
             type.truth type.truth of.2 of.3 (λ x y. operates see (compares op) whole first x y)
             (λ x y g more n left both.
@@ -126,13 +134,15 @@ module _ (types : Types) (owner : ClosedType → Option (List ℕ)) {V W : Type 
     joins_safe is_and t fits rest h under w ticks met waits state =
         let c = λ (k : ℕ). (ca k).consumed + ((cb k).consumed + 0) in
         let d = λ (k : ℕ). (ca k).consumed + (cb k).consumed in
-        subst (λ (u : Meaning). GoodHeld types owner permits (Lefts u h (λ k. (ca k).consumed + (cb k).consumed) rest
-            under)
+        subst (λ (u : Meaning). GoodHeld types owner permits (way ∷ ways)
+        (Lefts u h (λ k. (ca k).consumed + (cb k).consumed) rest
+        under)
         (follows (one w ticks) (λ x. tick (chosen two (pure (values.truth false)) x)))) (sym fits.0)
         (good_so owner _ (Lefts type.truth h c rest under) (Lefts type.truth h d rest under)
         (follows (one w ticks) (λ x. tick (chosen two (pure (values.truth false)) x)))
         (λ v n left. recounted type.truth h c d rest under v n (λ k. omega arith) left)
-        (chosen_safe types owner permits laws a older names fs sizes size running below ca cb (λ k. unmentioned) B
+        (chosen_safe types owner permits way ways laws a older names fs sizes size running below ca cb
+        (λ k. unmentioned) B
         (IsPlain (values.truth false)) two (pure (values.truth false)) safe_two (pure_safe (values.truth false)) fits.3
         (λ k. refl) type.truth fits.2 tt rest h under one w ticks
         (safe_one type.truth fits.1 (λ k. plus (plus (cb k) unmentioned) (rest k)) h under w ticks
@@ -141,13 +151,15 @@ module _ (types : Types) (owner : ClosedType → Option (List ℕ)) {V W : Type 
     joins_safe is_or t fits rest h under w ticks met waits state =
         let c = λ (k : ℕ). (ca k).consumed + (0 + (cb k).consumed) in
         let d = λ (k : ℕ). (ca k).consumed + (cb k).consumed in
-        subst (λ (u : Meaning). GoodHeld types owner permits (Lefts u h (λ k. (ca k).consumed + (cb k).consumed) rest
-            under)
+        subst (λ (u : Meaning). GoodHeld types owner permits (way ∷ ways)
+        (Lefts u h (λ k. (ca k).consumed + (cb k).consumed) rest
+        under)
         (follows (one w ticks) (λ x. tick (chosen (pure (values.truth true)) two x)))) (sym fits.0)
         (good_so owner _ (Lefts type.truth h c rest under) (Lefts type.truth h d rest under)
         (follows (one w ticks) (λ x. tick (chosen (pure (values.truth true)) two x)))
         (λ v n left. recounted type.truth h c d rest under v n (λ k. omega arith) left)
-        (chosen_safe types owner permits laws a older names fs sizes size running below ca (λ k. unmentioned) cb
+        (chosen_safe types owner permits way ways laws a older names fs sizes size running below ca
+        (λ k. unmentioned) cb
         (IsPlain (values.truth true)) B (pure (values.truth true)) two (pure_safe (values.truth true)) safe_two
         (λ k. refl) fits.3 type.truth tt fits.2 rest h under one w ticks
         (safe_one type.truth fits.1 (λ k. plus (plus unmentioned (cb k)) (rest k)) h under w ticks

@@ -12,7 +12,7 @@ use Rattle.au_running_judgements.specs.Frames.{Frame}
 use Rattle.au_running_judgements.specs.Closing.{freed_frame, freed_frames}
 use Rattle.au_running_judgements.specs.Known.{AreActive}
 use Rattle.au_running_judgements.specs.Lives.{Standing}
-use Rattle.au_running_judgements.specs.Held.{AllHeld, IsHeld, IsPermitted, Permits}
+use Rattle.au_running_judgements.specs.Held.{AllHeld, ArePermitted, IsPermitted, Permits}
 use Rattle.au_sound_expressions.specs.Safe.{AllWait, Stands, Waits, frame}
 use Rattle.au_sound_expressions.proofs.HoldLemmas.{waits_put}
 
@@ -45,13 +45,13 @@ frame_stays active z f waits off =
     let same : (k : ℕ) → freed z (f.hold k) ≡ f.hold k = λ k. fresh active z (f.hold k) (waits k) off in
     λ i. record { hold = λ k. same k i; type = f.type }
 
-pub frames_stay : {V W : Type 0} (permits : Permits V W) (active : ℕ → Bool) (z : ℕ) (fs : List Frame) → AllWait
-    permits active fs → active z ≡ false
-    → freed_frames z fs ≡ fs
-frames_stay permits active z [] waits off = refl
-frames_stay permits active z (f ∷ fs) waits off =
+pub frames_stay : {V W : Type 0} (permits : Permits V W) (ways : List V) (active : ℕ → Bool) (z : ℕ)
+    (fs : List Frame) → AllWait permits ways active fs → active z ≡ false → freed_frames z fs ≡ fs
+frames_stay permits ways active z [] waits off = refl
+frames_stay permits [] active z (f ∷ fs) waits off = absurd waits
+frames_stay permits (way ∷ ways) active z (f ∷ fs) waits off =
     ap₂ (λ (g : Frame) (gs : List Frame). g ∷ gs) (frame_stays active z f waits.0.0 off)
-    (frames_stay permits active z fs waits.1 off)
+    (frames_stay permits ways active z fs waits.1 off)
 
 -- ---- more tokens
 
@@ -68,11 +68,16 @@ waits_more one two more (shut z) waits = more z waits
 waits_more one two more (watched []) waits = absurd waits
 waits_more one two more (watched (z ∷ zs)) waits = are_more one two more (z ∷ zs) waits
 
-pub all_more : {V W : Type 0} (permits : Permits V W) (one two : ℕ → Bool)
-    → ((z : ℕ) → one z ≡ true → two z ≡ true) → (fs : List Frame) → AllWait permits one fs → AllWait permits two fs
-all_more permits one two more [] waits = tt
-all_more permits one two more (f ∷ fs) waits =
-    ((λ k. waits_more one two more (f.hold k) (waits.0.0 k), waits.0.1), all_more permits one two more fs waits.1)
+pub all_more : {V W : Type 0} (permits : Permits V W) (ways : List V) (one two : ℕ → Bool)
+    → ((z : ℕ) → one z ≡ true → two z ≡ true) → (fs : List Frame) → AllWait permits ways one fs
+    → AllWait permits ways two fs
+all_more permits [] one two more [] waits = tt
+all_more permits [] one two more (f ∷ fs) waits = absurd waits
+all_more permits (way ∷ ways) one two more [] waits = absurd waits
+all_more permits (way ∷ ways) one two more (f ∷ fs) waits = (
+  (λ k. waits_more one two more (f.hold k) (waits.0.0 k), waits.0.1),
+  all_more permits ways one two more fs waits.1,
+)
 
 -- one token more is active
 pub active_more : (a : Act) (older : List Act) (z : ℕ) → is_active older z ≡ true → is_active (a ∷ older) z ≡ true
@@ -116,27 +121,30 @@ waits_freed a older (watched (y ∷ zs)) waits =
 -- ---- what names hold
 
 -- in frames whose names wait, they hold what they may
-pub all_held : {V W : Type 0} (permits : Permits V W) (active : ℕ → Bool) (fs : List Frame)
-    → AllWait permits active fs → AllHeld permits fs
-all_held permits active [] waits = tt
-all_held permits active (f ∷ fs) waits = (waits.0.1, all_held permits active fs waits.1)
+pub all_held : {V W : Type 0} (permits : Permits V W) (ways : List V) (active : ℕ → Bool) (fs : List Frame)
+    → AllWait permits ways active fs → AllHeld permits ways fs
+all_held permits [] active [] waits = tt
+all_held permits [] active (f ∷ fs) waits = absurd waits
+all_held permits (way ∷ ways) active [] waits = absurd waits
+all_held permits (way ∷ ways) active (f ∷ fs) waits = (waits.0.1, all_held permits ways active fs waits.1)
 
 -- names of which more are empty hold what they may
-pub held_fewer : {V W : Type 0} (permits : Permits V W) (h g : Standing) (names : ℕ → Meaning)
-    → ((k : ℕ) → h k ≡ empty → g k ≡ empty) → IsHeld permits (frame h names) → IsHeld permits (frame g names)
-held_fewer permits h g names fewer held = (held.0, λ k. by k (held.1 k))
+pub held_fewer : {V W : Type 0} (permits : Permits V W) (way : V) (h g : Standing) (names : ℕ → Meaning)
+    → ((k : ℕ) → h k ≡ empty → g k ≡ empty) → ArePermitted permits way h names → ArePermitted permits way g names
+held_fewer permits way h g names fewer held k = by (held k)
   where
-    by : (k : ℕ) → (h k ≡ empty) ⊎ IsPermitted permits held.0 (names k)
-        → (g k ≡ empty) ⊎ IsPermitted permits held.0 (names k)
-    by k (inl is) = inl (fewer k is)
-    by k (inr may) = inr may
+    by : (h k ≡ empty) ⊎ IsPermitted permits way (names k) → (g k ≡ empty) ⊎ IsPermitted permits way (names k)
+    by (inl is) = inl (fewer k is)
+    by (inr may) = inr may
 
 -- a name that stands otherwise is empty where it was
-pub stands_put : {V W : Type 0} (permits : Permits V W) (active : ℕ → Bool) (n : ℕ) (a : Hold) (h : Standing)
-    (names : ℕ → Meaning) → Waits active a → (h n ≡ empty → a ≡ empty) → Stands permits active h names
-    → Stands permits active (λ k. if n == k then a else h k) names
-stands_put permits active n a h names own fewer stands =
-    (waits_put active n a h own stands.0, held_fewer permits h (λ k. if n == k then a else h k) names empties stands.1)
+pub stands_put : {V W : Type 0} (permits : Permits V W) (way : V) (active : ℕ → Bool) (n : ℕ) (a : Hold)
+    (h : Standing) (names : ℕ → Meaning) → Waits active a → (h n ≡ empty → a ≡ empty)
+    → Stands permits way active h names → Stands permits way active (λ k. if n == k then a else h k) names
+stands_put permits way active n a h names own fewer stands = (
+  waits_put active n a h own stands.0,
+  held_fewer permits way h (λ k. if n == k then a else h k) names empties stands.1,
+)
   where
     empties : (k : ℕ) → h k ≡ empty → (if n == k then a else h k) ≡ empty
     empties k is = by (n == k) refl

@@ -51,11 +51,11 @@ unfolding follows
 good_closing owner cuts q m w ticks good = closes_out owner _ q (length w.borrows) (m w ticks) good
 
 module _ (types : Types) (owner : ClosedType → Option (List ℕ)) {V W : Type 0} (permits : Permits V W)
-    (laws : ActionsAreSafe types owner)
+    (way : V) (ways : List V) (laws : ActionsAreSafe types owner)
     (older : List Act) (names : ℕ → Meaning) (fs : List Frame) (sizes : List ℕ) (size : ℕ)
     (running : IsRunning sizes fs size) {I T C K : Type 0} (see : View I T C) (known : Callables I K)
-    (invoke : I → List Value → Action Value) (calls_safe : CallsSafe types owner permits known invoke)
-    (waiting : AllWait permits (is_active older) fs) where
+    (invoke : I → List Value → Action Value) (calls_safe : CallsSafe types owner permits (way ∷ ways) known invoke)
+    (waiting : AllWait permits ways (is_active older) fs) where
   -- What a whole expression leaves: its value is of a type of which this holds, names are consumed as it says, and as
   -- many borrows lie open as before.
   pub record Gave (A : Meaning → Type 0) (hold : Standing) (under : Made) (lying : Lying) (v : Value) (n : World)
@@ -69,9 +69,10 @@ module _ (types : Types) (owner : ClosedType → Option (List ℕ)) {V W : Type 
       (w : World) (ticks : ℕ)
       → ((z : ℕ) → is_active older z ≡ false
       → (t : Meaning) × A t × IsOf types owner see known names z (with_token z (is_active older)) scope e t)
-      → AreReady h (λ k. uses see k scope e) → Stands permits (is_active older) h names
+      → AreReady h (λ k. uses see k scope e) → Stands permits way (is_active older) h names
       → IsIn types owner older (frame h names ∷ fs) sizes under w
-      → GoodHeld types owner permits (Gave A (λ k. spent (uses see k scope e).consumed (h k)) under (lying_in w))
+      → GoodHeld types owner permits (way ∷ ways) (Gave A (λ k. spent (uses see k scope e).consumed (h k)) under
+      (lying_in w))
       (whole see invoke scope e w ticks)
   whole_safe A scope e h under w ticks fits met waits state =
       let begun = laws.begun older (frame h names ∷ fs) sizes under w state in
@@ -80,15 +81,16 @@ module _ (types : Types) (owner : ClosedType → Option (List ℕ)) {V W : Type 
       let q = Gave A (λ k. spent (uses see k scope e).consumed (h k)) under (lying_in w) in
       let counts = λ (k : ℕ). (uses see k scope e).consumed in
       let left = λ (v : Value) (n : World).
-      After types owner permits (a ∷ older) names fs sizes a.token h (λ k. (uses see k scope e).consumed)
+      After types owner permits way (a ∷ older) names fs sizes a.token h (λ k. (uses see k scope e).consumed)
       (λ k. unmentioned)
       ((v, fit.0) ∷ under) n in
       good_closing owner _ q (eval see invoke scope e) w ticks
       (good_so owner _ left (λ (v : Value) n. q v (closed_to (length w.borrows) n)) (eval see invoke scope e w ticks)
       (λ v n after. ends a begun.1 refl v n fit.0 fit.1 after)
-      (eval_safe types owner permits laws a older names fs sizes size running
-      (all_held permits (is_active older) fs waiting) see known invoke calls_safe
-      (all_more permits (is_active older) (is_active (a ∷ older)) (active_more a older) fs waiting) scope e fit.0 fit.2
+      (eval_safe types owner permits way ways laws a older names fs sizes size running
+      (all_held permits ways (is_active older) fs waiting) see known invoke calls_safe
+      (all_more permits ways (is_active older) (is_active (a ∷ older)) (active_more a older) fs waiting) scope e
+      fit.0 fit.2
       (λ k. unmentioned) h under w ticks
       (λ k. subst (λ n. Ready (stand (h k)) n) (sym (plus_nothing (uses see k scope e))) (met k))
       (λ k. waits_more (is_active older) (is_active (a ∷ older)) (active_more a older) (h k) (waits.0 k), waits.1)
@@ -96,7 +98,7 @@ module _ (types : Types) (owner : ClosedType → Option (List ℕ)) {V W : Type 
     where
       ends : (a : Act) → is_active older a.token ≡ false → a.base ≡ lying_in w → (v : Value) (n : World) (t : Meaning)
           → A t
-          → After types owner permits (a ∷ older) names fs sizes a.token h (λ k. (uses see k scope e).consumed)
+          → After types owner permits way (a ∷ older) names fs sizes a.token h (λ k. (uses see k scope e).consumed)
           (λ k. unmentioned) ((v, t) ∷ under) n
           → Gave A (λ k. spent (uses see k scope e).consumed (h k)) under (lying_in w) v
           (closed_to (length w.borrows) n)
@@ -120,7 +122,7 @@ module _ (types : Types) (owner : ClosedType → Option (List ℕ)) {V W : Type 
           let all : freed_frames a.token (frame after.hold names ∷ fs)
           ≡ frame (λ k. spent (uses see k scope e).consumed (h k)) names ∷ fs =
           ap₂ (λ (g : Frame) (gs : List Frame). g ∷ gs) own
-          (frames_stay permits (is_active older) a.token fs waiting off) in
+          (frames_stay permits ways (is_active older) a.token fs waiting off) in
           record {
             of = t;
             is = is;

@@ -27,18 +27,18 @@ use Rattle.au_sound_expressions.specs.Safe.{AllWait, CallsSafe, Stands, frame}
 abbrev pub ExpressionsAreSafe : (types : Types) → (ClosedType → Option (List ℕ))
     → {V W : Type 0} → Permits V W → {I T C K : Type 0} → View I T C → Callables I K
     → (I → List Value → Action Value) → Type 0
-ExpressionsAreSafe types owner permits {T = T} {C = C} see known invoke =
-    ActionsAreSafe types owner → CallsSafe types owner permits known invoke
+ExpressionsAreSafe types owner {V} permits {T = T} {C = C} see known invoke =
+    ActionsAreSafe types owner → (way : V) (ways : List V) → CallsSafe types owner permits (way ∷ ways) known invoke
     → (acts : List Act) (names : ℕ → Meaning) (fs : List Frame) (sizes : List ℕ) (size : ℕ)
     → IsRunning sizes fs size
-    → AllWait permits (is_active acts) fs
+    → AllWait permits ways (is_active acts) fs
     → (scope : Scope) (e : Expression Bytes T C) (t : Meaning) (h : Standing) (under : Made) (w : World)
     (ticks : ℕ)
     → ((z : ℕ) → is_active acts z ≡ false
     → IsOf types owner see known names z (with_token z (is_active acts)) scope e t)
-    → AreReady h (λ k. uses see k scope e) → Stands permits (is_active acts) h names
+    → AreReady h (λ k. uses see k scope e) → Stands permits way (is_active acts) h names
     → IsIn types owner acts (frame h names ∷ fs) sizes under w
-    → GoodHeld types owner permits
+    → GoodHeld types owner permits (way ∷ ways)
     (λ (v : Value) n.
     IsIn types owner acts (frame (λ k. spent (uses see k scope e).consumed (h k)) names ∷ fs) sizes ((v, t)
     ∷ under) n

@@ -12,7 +12,7 @@ use Rattle.au_running_judgements.specs.Frames.{Frame}
 use Rattle.au_meaning.specs.Ticks.{Action}
 use Rattle.au_meaning.specs.Worlds.{Value, World}
 use Rattle.au_running_judgements.specs.Good.{IsIn, lying_in}
-use Rattle.au_running_judgements.specs.Held.{GoodHeld, IsHeld, Permits}
+use Rattle.au_running_judgements.specs.Held.{ArePermitted, GoodHeld, Permits}
 use Rattle.au_running_judgements.specs.Making.{values_of}
 use Rattle.au_running_judgements.specs.Known.{AreActive, Callables}
 use Rattle.au_running_judgements.specs.Lives.{AreReady, Standing, spent}
@@ -30,15 +30,17 @@ abbrev pub frame : Standing → (ℕ → Meaning) → Frame
 frame hold names = record { hold = hold; type = names }
 
 -- So does each name of a frame, and whatever it holds is of a type that is permitted.
-abbrev pub Stands : {V W : Type 0} → Permits V W → (ℕ → Bool) → Standing → (ℕ → Meaning) → Type 0
-Stands permits active hold names = ((k : ℕ) → Waits active (hold k)) × IsHeld permits (frame hold names)
+abbrev pub Stands : {V W : Type 0} → Permits V W → V → (ℕ → Bool) → Standing → (ℕ → Meaning) → Type 0
+Stands permits way active hold names = ((k : ℕ) → Waits active (hold k)) × ArePermitted permits way hold names
 
--- so does each name of frames
-abbrev pub AllWait : {V W : Type 0} → Permits V W → (ℕ → Bool) → List Frame → Type 0
-AllWait permits active [] = Unit {0}
-AllWait permits active (f ∷ fs) = Stands permits active f.hold f.type × AllWait permits active fs
+-- so does each name of frames, the newest first, of functions that were called in these ways
+abbrev pub AllWait : {V W : Type 0} → Permits V W → List V → (ℕ → Bool) → List Frame → Type 0
+AllWait permits [] active [] = Unit {0}
+AllWait permits (way ∷ ways) active (f ∷ fs) =
+    Stands permits way active f.hold f.type × AllWait permits ways active fs
+AllWait permits ways active fs = ⊥
 
-module _ (types : Types) (owner : ClosedType → Option (List ℕ)) {V W : Type 0} (permits : Permits V W)
+module _ (types : Types) (owner : ClosedType → Option (List ℕ)) {V W : Type 0} (permits : Permits V W) (way : V)
     (acts : List Act) (names : ℕ → Meaning)
     (fs : List Frame) (sizes : List ℕ) (z : ℕ) where
   -- What an expression of the token z leaves of the running frame, where names stood so before it: a name
@@ -50,19 +52,19 @@ module _ (types : Types) (owner : ClosedType → Option (List ℕ)) {V W : Type 
       pub hold : Standing
       pub met : AreReady hold left
       pub gone : (k : ℕ) → freed z (hold k) ≡ spent (consumed k) (freed z (before k))
-      pub waits : Stands permits (is_active acts) hold names
+      pub waits : Stands permits way (is_active acts) hold names
       pub state : IsIn types owner acts (frame hold names ∷ fs) sizes under w
 
--- Each call is safe that may be made: from wherever its arguments are under way, its result is, and borrows
+-- Each call is safe that may be made where the frames are those of functions that were called in these ways: from wherever its arguments are under way, its result is, and borrows
 -- lie as they did.
 abbrev pub CallsSafe : Types → (ClosedType → Option (List ℕ)) → {V W : Type 0} → Permits V W
-    → {I K : Type 0} → Callables I K
+    → List V → {I K : Type 0} → Callables I K
     → (I → List Value → Action Value) → Type 0
-CallsSafe types owner permits {K = K} known invoke =
+CallsSafe types owner permits ways {K = K} known invoke =
     (key : K) (acts : List Act) (fs : List Frame) (sizes : List ℕ) (made under : Made) (w : World) (ticks : ℕ)
-    → AreActive (is_active acts) (known.tokens key) → AllWait permits (is_active acts) fs → length sizes ≡ length fs
+    → AreActive (is_active acts) (known.tokens key) → AllWait permits ways (is_active acts) fs → length sizes ≡ length fs
     → types_made made ≡ known.parameters key → IsIn types owner acts fs sizes (onto made under) w
-    → GoodHeld types owner permits
+    → GoodHeld types owner permits ways
     (λ (v : Value) n. IsIn types owner acts fs sizes ((v, known.result key) ∷ under) n
     × (lying_in n ≡ lying_in w))
     (invoke (known.of key) (values_of made) w ticks)
