@@ -252,17 +252,17 @@ module _ (program : List ModuleParts) (noted : List NotedParts) where
 
     begins : Begins (types_of program) (owner_of program) (anything (Key program noted)) safe (ways program noted) handing
         functions judged watch
-    begins key acts fs sizes made under w typed state held =
+    begins key acts fs sizes made under w typed state =
         lets_pass None key tt acts fs sizes made under w typed state
 
     passes : Passes (types_of program) (owner_of program) (anything (Key program noted)) safe (ways program noted) handing
         functions judged watch
-    passes call acts fs sizes made under w typed state held =
+    passes call acts fs sizes made under w typed state =
         lets_pass (Some call.from.one) call.to call.handed acts fs sizes made under w typed state
 
     returns : Returns (types_of program) (owner_of program) (anything (Key program noted)) safe (ways program noted) handing
         functions judged watch
-    returns key acts fs sizes under v w state held =
+    returns key acts fs sizes under v w state =
         let its = run_there program noted key.one.of key.body key.there in
         lets.returned key.one v w (record {
           key = key;
