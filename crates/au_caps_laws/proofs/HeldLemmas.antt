@@ -40,9 +40,8 @@ use Rattle.au_memory.specs.Forests.{empty}
 use Rattle.au_tables.specs.Tables.{types_of}
 use Rattle.au_owners.specs.Owners.{owner_of}
 use Rattle.au_accepted.specs.Programs.{program_modules}
-use Rattle.au_safe_ships.specs.Frames.{Frame}
 use Rattle.au_judged_bodies.specs.Covering.{Covers, MayHold}
-use Rattle.au_judged_bodies.specs.Held.{AllHeld, HoldsWell, IsHeld, IsPermitted, Permits}
+use Rattle.au_judged_bodies.specs.Held.{IsPermitted}
 use Rattle.au_judged_bodies.specs.Keys.{Key}
 use Rattle.au_judged_bodies.specs.KnownTypes.Known.{IsKnown}
 use Rattle.au_judged_bodies.specs.WrittenTypes.{types_in_block}
@@ -56,15 +55,15 @@ use Rattle.au_judged_programs.specs.RunningBodiesBodies.{generics_of}
 use Rattle.au_judged_programs.proofs.EntryLemmas.{entries_held}
 use Rattle.au_judged_programs.proofs.FitLemmas.{accepted_checked}
 use Rattle.au_judged_programs.proofs.FoundLemmas.{found_entry}
-use Rattle.au_judged_programs.proofs.RunLemmas.{runs_held}
+use Rattle.au_judged_programs.proofs.RunLemmas.{calls_held, runs_held}
 use Rattle.au_judged_programs.proofs.RunningBodiesBodyLemmas.{meant_so, params_alike}
 use Rattle.au_judged_programs.proofs.SoundEntriesCallLemmas.{any_calls}
 use Rattle.au_closed_meanings.specs.Numbers.{first_name}
 use Rattle.au_caps_lists.specs.Bodies.{Bodied}
 use Rattle.au_caps_lists.specs.Holding.{Holds}
 use Rattle.au_caps_laws.specs.Births.{IsRunFor, run_as}
-use Rattle.au_caps_laws.specs.Held.{AcceptedEntriesAreListed, AcceptedRunsAreListed, AllAreListed, EntriesAreListed}
-use Rattle.au_caps_laws.specs.Held.{HoldsListed, IsListed, NamesAreListed, RunsAreListed}
+use Rattle.au_caps_laws.specs.Held.{AcceptedCallsAreHeld, AcceptedEntriesAreListed, AcceptedRunsAreListed}
+use Rattle.au_caps_laws.specs.Held.{EachCallIsListed, EntriesAreListed, IsListed, Permit, RunsAreListed, permits}
 use Rattle.au_caps_laws.specs.Reach.{ClosedReaches, IsReachedOrGiven, declared_in, meant_among}
 use Rattle.au_caps_laws.proofs.ReachLemmas.{parameters_held, variables_held}
 use Rattle.au_caps_laws.proofs.RunForLemmas.{run_there}
@@ -72,21 +71,12 @@ use Rattle.au_caps_laws.proofs.RunForLemmas.{run_there}
 module _ (program : List ModuleParts) (noted : List NotedParts) where
   -- ---- what is permitted is what is listed
 
-  -- a permit is that a type is listed
-  record Permit : Type 0 where
-    key : Key program noted
-    t : Meaning
-    listed : IsListed program noted key t
-
-  abbrev permits : Permits (Key program noted) Permit
-  permits = record { way = λ one. one.key; type = λ one. one.t }
-
-  listed_for : (key : Key program noted) (t : Meaning) → IsPermitted permits key t → IsListed program noted key t
+  listed_for : (key : Key program noted) (t : Meaning) → IsPermitted (permits program noted) key t → IsListed program noted key t
   listed_for key t (one, way, type) =
-      subst (IsListed program noted key) type (subst (λ k. IsListed program noted k one.t) way one.listed)
+      subst (IsListed program noted key) type (subst (λ k. IsListed program noted k one.type) way one.listed)
 
-  permitted_for : (key : Key program noted) (t : Meaning) → IsListed program noted key t → IsPermitted permits key t
-  permitted_for key t its = (record { key = key; t = t; listed = its }, refl, refl)
+  permitted_for : (key : Key program noted) (t : Meaning) → IsListed program noted key t → IsPermitted (permits program noted) key t
+  permitted_for key t its = (record { way = key; type = t; listed = its }, refl, refl)
 
   -- ---- integers and references
 
@@ -194,7 +184,7 @@ module _ (program : List ModuleParts) (noted : List NotedParts) where
       held = held;
     }
 
-    body_covered : Covers (MayHold permits key (AreGoodHere program noted b.place generics given))
+    body_covered : Covers (MayHold (permits program noted) key (AreGoodHere program noted b.place generics given))
         (IsPermitted (anything (Key program noted)) key) outside generics b.header.parameters b.block
     body_covered = record {
       integers = λ kind s good. permitted_for key (integer kind) (integer_listed key b runs kind);
@@ -213,57 +203,40 @@ module _ (program : List ModuleParts) (noted : List NotedParts) where
       handed = λ e there. ((key, type_of e), refl, refl);
     }
 
-  all_covered : AreCovered program noted (anything (Key program noted)) permits
+  all_covered : AreCovered program noted (anything (Key program noted)) (permits program noted)
   all_covered key =
       let its = run_there program noted key.one.of key.body key.there in
       subst (λ (body : BodyOf). Covers
-      (MayHold permits key
+      (MayHold (permits program noted) key
       (AreGoodHere program noted body.place (generics_of program noted body key.one.given) key.one.given))
-      (IsPermitted (anything (Key program noted)) key) (outside_of program body.place Body) (generics_of program noted body key.one.given)
-      body.header.parameters body.block)
+      (IsPermitted (anything (Key program noted)) key) (outside_of program body.place Body)
+      (generics_of program noted body key.one.given) body.header.parameters body.block)
       its.2 (body_covered key its.0 its.1.run)
-
-  -- ---- worlds
-
-  frame_listed : (f : Frame) → IsHeld permits f → NamesAreListed program noted f
-  frame_listed f (key, each) = (key, λ k. by k (each k))
-    where
-      by : (k : ℕ) → (f.hold k ≡ empty) ⊎ IsPermitted permits key (f.type k)
-          → (f.hold k ≡ empty) ⊎ IsListed program noted key (f.type k)
-      by k (inl none) = inl none
-      by k (inr its) = inr (listed_for key (f.type k) its)
-
-  frames_listed : (fs : List Frame) → AllHeld permits fs → AllAreListed program noted fs
-  frames_listed [] all = tt
-  frames_listed (f ∷ fs) all = (frame_listed f all.0, frames_listed fs all.1)
-
-  world_listed : (w : World) → HoldsWell (types_of program) (owner_of program) permits w → HoldsListed program noted w
-  world_listed w its = record {
-    acts = its.acts;
-    frames = its.frames;
-    sizes = its.sizes;
-    under = its.under;
-    state = its.state;
-    listed = frames_listed its.frames its.held;
-  }
 
   -- ---- runs
 
   pub runs_listed : IsChecked program noted → RunsAreListed program noted
-  runs_listed checked first key entry input ticks ended =
-      world_listed _
-      (runs_held program noted (owner_of program) permits checked (any_calls program noted checked) all_covered
-      first key entry input ticks ended)
+  runs_listed checked first key entry input ticks =
+      runs_held program noted (owner_of program) (permits program noted) checked (any_calls program noted checked)
+      all_covered first key entry input ticks
+
+  pub each_call_listed : IsChecked program noted → EachCallIsListed program noted
+  each_call_listed checked first =
+      calls_held program noted (owner_of program) (permits program noted) checked (any_calls program noted checked)
+      all_covered first
 
   pub entries_listed : IsChecked program noted → EntriesAreListed program noted
-  entries_listed checked owner name target root found input ticks ended =
-      world_listed _
-      (entries_held program noted permits checked all_covered target
-      (found_entry program noted checked owner name target root found) (first_name program noted) input ticks ended)
+  entries_listed checked owner name target root found input ticks =
+      entries_held program noted (permits program noted) checked all_covered target
+      (found_entry program noted checked owner name target root found) (first_name program noted) input ticks
 
 pub accepted_runs_listed : AcceptedRunsAreListed
 accepted_runs_listed files names all read a =
     runs_listed (program_modules read) a.noted (accepted_checked files names all read a)
+
+pub accepted_calls_held : AcceptedCallsAreHeld
+accepted_calls_held files names all read a =
+    each_call_listed (program_modules read) a.noted (accepted_checked files names all read a)
 
 pub accepted_entries_listed : AcceptedEntriesAreListed
 accepted_entries_listed files names all read a =

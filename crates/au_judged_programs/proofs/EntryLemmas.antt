@@ -163,6 +163,9 @@ entries_well program noted checked target entry first input ticks =
 pub entries_held : (program : List ModuleParts) (noted : List NotedParts) {W : Type 0}
     (permits : Permits (Key program noted) W) → EntriesHoldWell program noted permits
 entries_held program noted permits checked covered target entry first input ticks =
-    let calls = any_calls program noted checked in
-    runs_held program noted (owner_of program) permits checked calls covered first
-    (key program noted checked target entry) (is_entry program noted checked target entry first) input ticks
+    let calls = any_calls program noted checked in (
+      key program noted checked target entry,
+      refl,
+      runs_held program noted (owner_of program) permits checked calls covered first
+          (key program noted checked target entry) (is_entry program noted checked target entry first) input ticks,
+    )

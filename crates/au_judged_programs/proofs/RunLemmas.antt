@@ -15,9 +15,10 @@ use Rattle.au_judged_programs.proofs.BirthLemmas.{checked_typed}
 use Rattle.au_judged_bodies.specs.Keys.{Key, ways}
 use Rattle.au_judged_bodies.specs.Tables.{types_of}
 use Rattle.au_judged_programs.proofs.JudgedLemmas.{programs_judged}
+use Rattle.au_sound.proofs.CallLemmas.{calls_hold}
 use Rattle.au_sound.proofs.MainLemmas.{runs_well}
 use Rattle.au_sound.proofs.WireLemmas.{runs_are_safe}
-use Rattle.au_judged_programs.specs.Runs.{RunsAreSeenWell, RunsHoldWell}
+use Rattle.au_judged_programs.specs.Runs.{CallsHoldWell, RunsAreSeenWell, RunsHoldWell}
 
 module _ (program : List ModuleParts) (noted : List NotedParts) (owner : ClosedType → Option (List ℕ)) where
   all_covered : AreCovered program noted (anything (Key program noted)) (anything (Key program noted))
@@ -45,3 +46,12 @@ module _ (program : List ModuleParts) (noted : List NotedParts) (owner : ClosedT
       (ways program noted) (anywhere (Key program noted)) (generic_functions program noted first)
       (programs_judged program noted owner permits (anywhere (Key program noted)) (anything (Key program noted)) checked
       calls covered first) key entry input ticks).1
+
+  pub calls_held : {W : Type 0} (permits : Permits (Key program noted) W) → IsChecked program noted
+      → CallsHoldWell program noted owner permits
+  calls_held permits checked calls covered first =
+      calls_hold (types_of program) owner permits
+      (runs_are_safe (types_of program) owner (checked_typed program noted checked))
+      (ways program noted) (anywhere (Key program noted)) (generic_functions program noted first)
+      (programs_judged program noted owner permits (anywhere (Key program noted)) (anything (Key program noted)) checked
+      calls covered first)

@@ -1,5 +1,5 @@
 -- Functions that have the form of an entry, and runs from them.
-use Rattle.std.specs.Prelude.{◌≡◌, ℕ, Bool, List, [], Some}
+use Rattle.std.specs.Prelude.{◌≡◌, ℕ, Bool, List, [], ◌∷◌, Some}
 use Rattle.au_base.specs.Outside.{Files}
 use Rattle.au_syntax.specs.declared.modules.Part.TheVariants.{Body}
 use Rattle.au_modules.specs.Programs.{ModuleParts}
@@ -68,13 +68,14 @@ abbrev pub EntriesRunWell : List ModuleParts → List NotedParts → Type 0
 EntriesRunWell program noted = IsChecked program noted → AllRunsAreSeenWell program noted
 
 -- Names hold what is permitted wherever such a run of a checked program is cut off, where this covers the
--- bodies of functions.
+-- bodies of functions: the oldest frame is that of the entry, in the way in which it is called.
 abbrev pub EntriesHoldWell : (program : List ModuleParts) (noted : List NotedParts) {W : Type 0}
     → Permits (Key program noted) W → Type 0
 EntriesHoldWell program noted permits =
     IsChecked program noted → AreCovered program noted (anything (Key program noted)) permits → (target : Target)
     → IsEntryHere program noted target → (first : Instance → ℕ) (input : List ℕ) (ticks : ℕ)
-    → HoldsWhereCut (types_of program) (owner_of program) permits
+    → (key : Key program noted) × (key.one ≡ record { of = target; given = [] })
+    × HoldsWhereCut (types_of program) (owner_of program) permits (key ∷ [])
     (mean (generic_functions program noted first) (record { of = target; given = [] }) input ticks)
 
 -- So it is in an accepted program.

@@ -11,7 +11,7 @@ ghost use Rattle.au_closing_laws.specs.Programs.{program_modules};
 ghost use Rattle.au_closing_laws.specs.Trees.{ReadFile};
 ghost use Rattle.au_judged_bodies.specs.Held.{Permits};
 ghost use Rattle.au_judged_bodies.specs.Keys.{Key};
-ghost use Rattle.au_judged_programs.specs.Runs.{RunsAreSeenWell, RunsHoldWell};
+ghost use Rattle.au_judged_programs.specs.Runs.{CallsHoldWell, RunsAreSeenWell, RunsHoldWell};
 
 /// Every run of an accepted program from an entry is seen well, where calls run in the bodies of functions.
 pub fn accepted_programs_run_well()
@@ -23,10 +23,13 @@ pub fn accepted_programs_run_well()
         → RunsAreSeenWell (program_modules reads) a.noted owner }
 {}
 
-/// Names hold what is permitted wherever a run of a checked program from an entry is cut off, where this
-/// covers the bodies of functions.
+/// Names hold what is permitted wherever a run of a checked program from an entry is cut off, and wherever
+/// each of its calls is, where this covers the bodies of functions.
 pub fn checked_programs_hold_well<W>()
-    ensures { (program : List ModuleParts) (noted : List NotedParts) (owner : ClosedType → Option (List ℕ))
-        (permits : Permits (Key program noted) W)
+    ensures runs { (program : List ModuleParts) (noted : List NotedParts)
+        (owner : ClosedType → Option (List ℕ)) (permits : Permits (Key program noted) W)
         → IsChecked program noted → RunsHoldWell program noted owner permits }
+    ensures calls { (program : List ModuleParts) (noted : List NotedParts)
+        (owner : ClosedType → Option (List ℕ)) (permits : Permits (Key program noted) W)
+        → IsChecked program noted → CallsHoldWell program noted owner permits }
 {}
