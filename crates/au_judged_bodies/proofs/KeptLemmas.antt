@@ -1,4 +1,5 @@
--- What keeps as the lives of variables have it, and whose arguments may be handed on, keeps as the rules of typing ask it.
+-- What keeps as the lives of variables have it, and whose arguments may be handed on, keeps as the rules of
+-- typing ask it.
 use Rattle.std.proofs.Common.{inl, inr, List, ◌++◌, refl}
 use Rattle.au_meaning.specs.Expressions.{Operation, computes, compares, is_and, is_or, operation_of}
 use Rattle.au_meaning.specs.Names.{Scope}

@@ -204,14 +204,17 @@ module _ (program : List ModuleParts) (noted : List NotedParts) (owner : ClosedT
 
     -- ---- the whole judgement
 
-    besides : BesidesAll (view_of program noted key.body given) loose may_hold (IsPermitted handed key) (function.first + length function.parameters)
-        good.0.body.scope (scope_of function) key.body.block
+    besides : BesidesAll (view_of program noted key.body given) loose may_hold (IsPermitted handed key)
+        (function.first + length function.parameters) good.0.body.scope (scope_of function) key.body.block
     besides =
-        subst (λ (ps : List Parameter). BesidesAll (view_under program noted key.body.place ps given) loose may_hold (IsPermitted handed key)
-        (function.first + length function.parameters) good.0.body.scope (scope_of function) key.body.block) (sym alike)
-        (bodies_asked function may_hold (IsPermitted handed key) outside key.body.generics key.body.header good.0 good.1 covers)
+        subst (λ (ps : List Parameter). BesidesAll (view_under program noted key.body.place ps given) loose may_hold
+        (IsPermitted handed key) (function.first + length function.parameters) good.0.body.scope (scope_of function)
+        key.body.block) (sym alike)
+        (bodies_asked function may_hold (IsPermitted handed key) outside key.body.generics key.body.header good.0 good.1
+        covers)
 
-    module _ (calls : CallsRunHere program noted key.body.place generics given owner known (IsPermitted handed key)) where
+    module _ (calls : CallsRunHere program noted key.body.place generics given owner known
+        (IsPermitted handed key)) where
       runs_at : (active : ℕ → Bool) → AreActive active key.tokens
           → BodyRuns program noted key.body given owner known permits key loose active (first key.one) key.s
           (λ k. unit)
