@@ -344,17 +344,18 @@ module _ {I T C : Type 0} (functions : I → Option (Function I T C)) (watch : W
       by (cut w) none = absurd none
       by (no_rule w left) none = tt
 
-  watched_alike : (depth : ℕ) (one : I) (args : List Value)
-      → Alike (watched_at watch functions depth one args) (call_at functions depth one args)
+  watched_alike : (depth : ℕ) (caller : Option I) (one : I) (args : List Value)
+      → Alike (watched_at watch functions depth caller one args) (call_at functions depth one args)
   unfolding watched_at call_at
-  watched_alike zero one args w ticks = inl refl
-  watched_alike (suc depth) one args w ticks =
+  watched_alike zero caller one args w ticks = inl refl
+  watched_alike (suc depth) caller one args w ticks =
       behind_alike (watch.returned one)
-      (tested (watch.passed one args) (enters (watched_at watch functions depth) depth (functions one) args) w ticks)
+      (tested (watch.passed caller one args)
+      (enters (watched_at watch functions depth (Some one)) depth (functions one) args) w ticks)
       (enters (call_at functions depth) depth (functions one) args w ticks)
-      (tested_alike (watch.passed one args) _ _
-      (enters_alike (watched_at watch functions depth) (call_at functions depth)
-      (λ other values. watched_alike depth other values) depth (functions one) args) w ticks)
+      (tested_alike (watch.passed caller one args) _ _
+      (enters_alike (watched_at watch functions depth (Some one)) (call_at functions depth)
+      (λ other values. watched_alike depth (Some one) other values) depth (functions one) args) w ticks)
 
   begun_alike : (fields : List Field) (f g : List Value → Action Value) → ((args : List Value) → Alike (f args) (g args))
       → Alike (begun fields f) (begun fields g)
@@ -365,8 +366,9 @@ module _ {I T C : Type 0} (functions : I → Option (Function I T C)) (watch : W
   -- what a program does under a watch is what it does, or it is stuck
   pub means_alike : (entry : I) (input : List ℕ) (ticks : ℕ)
       → IsOne
-      (begun (parameters_of (functions entry)) (watched_at watch functions (suc ticks) entry) (first_world input) ticks)
+      (begun (parameters_of (functions entry)) (watched_at watch functions (suc ticks) None entry) (first_world input)
+      ticks)
       (begun (parameters_of (functions entry)) (call_at functions (suc ticks) entry) (first_world input) ticks)
   means_alike entry input ticks =
-      begun_alike (parameters_of (functions entry)) _ _ (λ args. watched_alike (suc ticks) entry args)
+      begun_alike (parameters_of (functions entry)) _ _ (λ args. watched_alike (suc ticks) None entry args)
       (first_world input) ticks

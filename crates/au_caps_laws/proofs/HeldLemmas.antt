@@ -27,6 +27,7 @@ use Rattle.au_names.specs.HeadsOf.{heads_of}
 use Rattle.au_names.proofs.AmongLemmas.{among}
 use Rattle.au_typing.specs.Bodies.{outer_scope}
 use Rattle.au_typing.specs.Lookups.{written_type}
+use Rattle.au_typing.specs.Notes.{type_of}
 use Rattle.au_typing.specs.Outsides.{outside_of}
 use Rattle.au_typing.specs.Parts.{borrow_type, lent}
 use Rattle.au_typing.specs.Scopes.{Outside, Scope}
@@ -48,7 +49,7 @@ use Rattle.au_judged_bodies.proofs.NotedLemmas.{written_known}
 use Rattle.au_judged_bodies.proofs.PieceLemmas.{behind_write}
 use Rattle.au_judged_bodies.proofs.StandingTypesStandLemmas.{known_closes}
 use Rattle.au_judged_programs.specs.CheckedChecked.{IsChecked}
-use Rattle.au_judged_programs.specs.Judged.{AreCovered}
+use Rattle.au_judged_programs.specs.Judged.{AreCovered, anything}
 use Rattle.au_judged_programs.specs.RoundProgramsBodies.{AreGoodHere}
 use Rattle.au_judged_programs.specs.RunningBodiesBodies.{generics_of}
 use Rattle.au_judged_programs.proofs.EntryLemmas.{entries_held}
@@ -183,8 +184,8 @@ module _ (program : List ModuleParts) (noted : List NotedParts) where
       held = held;
     }
 
-    body_covered : Covers (MayHold (permits program noted) key (AreGoodHere program noted b.place generics given)) outside generics
-        b.header.parameters b.block
+    body_covered : Covers (MayHold (permits program noted) key (AreGoodHere program noted b.place generics given))
+        (IsPermitted (anything (Key program noted)) key) outside generics b.header.parameters b.block
     body_covered = record {
       integers = λ kind s good. permitted_for key (integer kind) (integer_listed key b runs kind);
       references = λ m region t of e held s good.
@@ -199,27 +200,30 @@ module _ (program : List ModuleParts) (noted : List NotedParts) where
           permitted_for key (running s 0 t)
           (type_listed s t (closes_so sc same over w t is s good)
           (variables_held program b given w there sc.regions t (means_so sc same over w t is)));
+      handed = λ e there. ((key, type_of e), refl, refl);
     }
 
-  all_covered : AreCovered program noted permits
+  all_covered : AreCovered program noted (anything (Key program noted)) (permits program noted)
   all_covered key =
       let its = run_there program noted key.one.of key.body key.there in
       subst (λ (body : BodyOf). Covers
       (MayHold (permits program noted) key
       (AreGoodHere program noted body.place (generics_of program noted body key.one.given) key.one.given))
-      (outside_of program body.place Body) (generics_of program noted body key.one.given)
-      body.header.parameters body.block)
+      (IsPermitted (anything (Key program noted)) key) (outside_of program body.place Body)
+      (generics_of program noted body key.one.given) body.header.parameters body.block)
       its.2 (body_covered key its.0 its.1.run)
 
   -- ---- runs
 
   pub runs_listed : IsChecked program noted → RunsAreListed program noted
   runs_listed checked first key entry input ticks =
-      runs_held program noted (owner_of program) (permits program noted) checked (any_calls program noted checked) all_covered first key entry input ticks
+      runs_held program noted (owner_of program) (permits program noted) checked (any_calls program noted checked)
+      all_covered first key entry input ticks
 
   pub each_call_listed : IsChecked program noted → EachCallIsListed program noted
   each_call_listed checked first =
-      calls_held program noted (owner_of program) (permits program noted) checked (any_calls program noted checked) all_covered first
+      calls_held program noted (owner_of program) (permits program noted) checked (any_calls program noted checked)
+      all_covered first
 
   pub entries_listed : IsChecked program noted → EntriesAreListed program noted
   entries_listed checked owner name target root found input ticks =

@@ -1,5 +1,5 @@
 -- What is passed in the ways in which functions are called, and what is returned, is listed.
-use Rattle.std.proofs.Common.{◌≡◌, inl, inr, ℕ, suc, List, [], ◌∷◌, map, Option, None, Some, refl, sym, ap, subst}
+use Rattle.std.proofs.Common.{◌≡◌, inl, inr, ℕ, suc, true, List, [], ◌∷◌, map, Option, None, Some, Contains, refl, sym, ap, subst}
 use Rattle.au_syntax.specs.declared.modules.Part.TheVariants.{Body}
 use Rattle.au_syntax.specs.Plain.{Bytes}
 use Rattle.au_syntax.specs.Types.{Labelled, WrittenType}
@@ -14,32 +14,44 @@ use Rattle.au_type_texts.specs.Types.{ClosedType}
 use Rattle.au_meaning.specs.Meanings.{begun, call_at, first_world, mean, parameters_of, seen}
 use Rattle.au_meaning.specs.Ticks.{Out, aborts, cut, gives, no_rule}
 use Rattle.au_meaning.specs.Views.{Function}
-use Rattle.au_meaning.specs.Worlds.{Value}
+use Rattle.au_meaning.specs.Worlds.{Value, World}
 use Rattle.au_running_types.specs.Running.{running}
 use Rattle.au_running_types.proofs.ClosedLemmas.{type_closes}
 use Rattle.au_written_types.specs.Written.{IsRegionName, IsTypeName}
 use Rattle.au_written_types.proofs.MeantLemmas.{meant_written}
+use Rattle.au_judged_types.specs.Bounds.{parameters}
 use Rattle.au_judged_types.specs.Meanings.{written_params}
 use Rattle.au_modules.specs.Programs.{ModuleParts}
 use Rattle.au_names.specs.HeadsOf.{heads_of}
 use Rattle.au_names.proofs.AmongLemmas.{Among, among, contains}
-use Rattle.au_typing.specs.Notes.{Note}
+use Rattle.au_typing.specs.Notes.{Note, NotedExpression, type_of}
 use Rattle.au_typing.specs.Parts.{borrow_type}
-use Rattle.au_typing.specs.Trees.{NotedParts}
+use Rattle.au_typing.specs.Trees.{NotedParts, NotedStatements}
 use Rattle.au_typing.specs.Written.{types_at}
 use Rattle.au_closing.specs.Bodies.{BodyOf}
 use Rattle.au_closing.specs.Instances.{Instance}
 use Rattle.au_closed_meanings.specs.Generic.{generic_functions}
+use Rattle.au_memory.specs.Forests.{Made}
+use Rattle.au_lending.specs.Records.{onto, types_made}
+use Rattle.au_safe_ships.specs.Frames.{Frame}
+use Rattle.au_safe_ships.specs.Good.{IsIn}
 use Rattle.au_safe_ships.specs.Making.{values_of}
+use Rattle.au_safe_ships.specs.Orders.{Act}
 use Rattle.au_tables.specs.Tables.{types_of}
 use Rattle.au_owners.specs.Owners.{owner_of}
 use Rattle.au_accepted.specs.Programs.{program_modules}
-use Rattle.au_sound_blocks.specs.Blocks.{AllRun}
-use Rattle.au_sound_blocks.specs.Held.{Permits}
+use Rattle.au_judged_bodies.specs.Blocks.{AllRun}
+use Rattle.au_judged_bodies.specs.Held.{IsPermitted, Permits}
+use Rattle.au_judged_bodies.specs.Known.{Calls}
 use Rattle.au_judged_bodies.specs.Keys.{Key, meant_or_unit, ways, written_running}
+use Rattle.au_judged_bodies.specs.Sights.{AreHandedAs}
 use Rattle.au_judged_bodies.specs.StandingTypesStanding.{StandsFor}
+use Rattle.au_judged_bodies.specs.Texts.{arguments_by_block}
+use Rattle.au_judged_bodies.proofs.StandingTypesStandLemmas.{known_closes}
 use Rattle.au_judged_programs.specs.CheckedChecked.{IsChecked}
-use Rattle.au_judged_programs.specs.Judged.{AreCovered}
+use Rattle.au_judged_programs.specs.Judged.{AreCovered, CallsAreAllowed, anything}
+use Rattle.au_judged_programs.specs.RoundProgramsBodies.{AreGoodHere}
+use Rattle.au_judged_programs.specs.RunningBodiesBodies.{generics_of}
 use Rattle.au_judged_programs.proofs.BirthLemmas.{checked_typed}
 use Rattle.au_judged_programs.proofs.EntryLemmas.{entry_way}
 use Rattle.au_judged_programs.proofs.FitLemmas.{accepted_checked}
@@ -50,13 +62,13 @@ use Rattle.au_sound.proofs.WireLemmas.{runs_are_safe}
 use Rattle.au_caps_lists.specs.Bodies.{Bodied, params_of}
 use Rattle.au_caps_lists.specs.Holding.{Hands, Holds}
 use Rattle.au_caps_laws.specs.Births.{run_as}
-use Rattle.au_caps_laws.specs.Passing.{AcceptedCallsAreListed, AreBoundedBy, CallsAreListed, IsBoundedBy, LetsPass}
+use Rattle.au_caps_laws.specs.Passing.{AcceptedCallsAreListed, AreBoundedBy, AreHandedBy, CallsAreListed, IsBoundedBy, LetsPass}
 use Rattle.au_caps_laws.specs.Reach.{ClosedReaches, IsReachedOrGiven, declared_in, meant_among}
 use Rattle.au_caps_laws.specs.Watching.{Watch, watched_at, watched_mean}
 use Rattle.au_caps_laws.proofs.AlikeLemmas.{IsOne, IsStuck, means_alike}
-use Rattle.au_caps_laws.proofs.ReachLemmas.{parameters_held, result_handed}
+use Rattle.au_caps_laws.proofs.ReachLemmas.{arguments_handed, parameters_held, result_handed}
 use Rattle.au_caps_laws.proofs.RunForLemmas.{run_there}
-use Rattle.au_caps_laws.proofs.WatchLemmas.{Passes, Returns, watched_well}
+use Rattle.au_caps_laws.proofs.WatchLemmas.{Begins, Passes, Returns, watched_well}
 
 -- what is seen well isn't stuck
 no_stuck : (owner : ClosedType → Option (List ℕ)) (ticks : ℕ) (out : Out Value) → IsStuck out
@@ -127,17 +139,76 @@ module _ (program : List ModuleParts) (noted : List NotedParts) where
       (subst (λ (body : BodyOf). StandsFor (heads_of program) (written_params body.generics) key.one.given key.s) (sym same)
       key.stands))
 
-  -- all is permitted
-  abbrev anything : Permits (Key program noted) (Key program noted × Meaning)
-  anything = record { way = λ one. one.0; type = λ one. one.1 }
+  -- ---- what is handed on
 
-  all_covered : AreCovered program noted anything
+  -- the arguments of the calls in the text of the body of a way in which a function is called
+  record Argument : Type 0 where
+    key : Key program noted
+    e : NotedExpression
+    there : Contains (arguments_by_block key.body.block) e
+
+  abbrev arguments : Permits (Key program noted) Argument
+  arguments = record { way = λ one. one.key; type = λ one. type_of one.e }
+
+  -- an argument of this type in the text of a block
+  abbrev IsArgument : NotedStatements → Meaning → Type 0
+  IsArgument block t = (e : NotedExpression) × Contains (arguments_by_block block) e × (type_of e ≡ t)
+
+  argument_of : (key : Key program noted) (t : Meaning) → IsPermitted arguments key t → IsArgument key.body.block t
+  argument_of key t (one, way, is) =
+      (one.e, subst (λ (k : Key program noted). Contains (arguments_by_block k.body.block) one.e) way one.there, is)
+
+  all_covered : AreCovered program noted arguments (anything (Key program noted))
   all_covered key = record {
     integers = λ kind s stands. ((key, running s 0 (integer kind)), refl, refl);
     references = λ mode region t of lent held s stands. ((key, running s 0 (borrow_type mode region of)), refl, refl);
     given = λ p there t is s stands. ((key, running s 0 t), refl, refl);
     written = λ w there sc outside generics t is s stands. ((key, running s 0 t), refl, refl);
+    handed = λ e there. (record { key = key; e = e; there = there }, refl, refl);
   }
+
+  module _ (key : Key program noted) where
+    -- running types of arguments in a body
+    abbrev AreArguments : BodyOf → List Meaning → Type 0
+    AreArguments body kinds =
+        AreHandedAs (heads_of program) (parameters (generics_of program noted body key.one.given))
+        (IsPermitted arguments key)
+        (AreGoodHere program noted body.place (generics_of program noted body key.one.given) key.one.given) kinds
+
+    kinds_handed : (b : Bodied) → run_as b ≡ key.body → (kinds : List Meaning) → AreArguments (run_as b) kinds
+        → AreBoundedBy program key.one.given (Hands program b) kinds
+    kinds_handed b same [] are = tt
+    kinds_handed b same (kind ∷ kinds) ((s, z, regions, t, good, whole, may, is), others) =
+        let its = argument_of key t may in
+        let there : Contains (arguments_by_block b.block) its.0 =
+        subst (λ (body : BodyOf). Contains (arguments_by_block body.block) its.0) (sym same) its.1 in (
+          (
+            closed_under key.one.given t,
+            subst (λ k. closed k ≡ Some (closed_under key.one.given t)) is
+                (known_closes (heads_of program) (parameters (generics_of program noted (run_as b) key.one.given)) regions
+                key.one.given s z t good.0 whole),
+            λ h reaches.
+                arguments_handed program b key.one.given its.0 there h
+                (subst (λ u. ClosedReaches program (closed_under key.one.given u) h) (sym its.2) reaches),
+          ),
+          kinds_handed b same kinds others,
+        )
+
+  -- Calls from one way to another, to whose parameters the function that makes the call hands on what it may.
+  record Call : Type 0 where
+    from : Key program noted
+    to : Key program noted
+    handed : AreHandedBy program noted (Some from.one) ((ways program noted).parameters to)
+
+  abbrev handing : Calls (Key program noted) Call
+  handing = record { from = λ call. call.from; to = λ call. call.to }
+
+  all_allowed : CallsAreAllowed program noted arguments handing
+  all_allowed key to are =
+      let its = run_there program noted key.one.of key.body key.there in
+      let bounded = kinds_handed key its.0 its.2 ((ways program noted).parameters to)
+      (subst (λ (body : BodyOf). AreArguments key body ((ways program noted).parameters to)) (sym its.2) are) in
+      (record { from = key; to = to; handed = (its.0, its.1.run, bounded) }, refl, refl)
 
   module _ (watch : Watch Instance) (lets : LetsPass program noted watch) (first : Instance → ℕ)
       (checked : IsChecked program noted) where
@@ -147,15 +218,20 @@ module _ (program : List ModuleParts) (noted : List NotedParts) where
     safe : RunsAreSafe (types_of program) (owner_of program)
     safe = runs_are_safe (types_of program) (owner_of program) (checked_typed program noted checked)
 
-    judged : AllRun (types_of program) (owner_of program) anything (ways program noted) functions
+    judged : AllRun (types_of program) (owner_of program) (anything (Key program noted)) (ways program noted) handing
+        functions
     judged =
-        programs_judged program noted (owner_of program) anything checked (calls_of_programs program noted checked)
-        all_covered first
+        programs_judged program noted (owner_of program) (anything (Key program noted)) handing arguments checked
+        (calls_of_programs program noted handing arguments checked all_allowed) all_covered first
 
-    passes : Passes (types_of program) (owner_of program) anything safe (ways program noted) functions judged watch
-    passes key acts fs sizes made under w typed state held =
+    lets_pass : (caller : Option Instance) (key : Key program noted)
+        → AreHandedBy program noted caller ((ways program noted).parameters key) → (acts : List Act) (fs : List Frame)
+        (sizes : List ℕ) (made under : Made) (w : World) → types_made made ≡ (ways program noted).parameters key
+        → IsIn (types_of program) (owner_of program) acts fs sizes (onto made under) w
+        → watch.passed caller key.one (values_of made) w ≡ true
+    lets_pass caller key handed acts fs sizes made under w typed state =
         let its = run_there program noted key.one.of key.body key.there in
-        lets.passed key.one (values_of made) w (record {
+        lets.passed caller key.one (values_of made) w (record {
           key = key;
           called = refl;
           typed = record {
@@ -171,10 +247,22 @@ module _ (program : List ModuleParts) (noted : List NotedParts) where
           body = its.0;
           runs = its.1.run;
           listed = way_held key its.0 its.2;
+          handed = handed;
         })
 
-    returns : Returns (types_of program) (owner_of program) anything safe (ways program noted) functions judged watch
-    returns key acts fs sizes under v w state held =
+    begins : Begins (types_of program) (owner_of program) (anything (Key program noted)) safe (ways program noted) handing
+        functions judged watch
+    begins key acts fs sizes made under w typed state =
+        lets_pass None key tt acts fs sizes made under w typed state
+
+    passes : Passes (types_of program) (owner_of program) (anything (Key program noted)) safe (ways program noted) handing
+        functions judged watch
+    passes call acts fs sizes made under w typed state =
+        lets_pass (Some call.from.one) call.to call.handed acts fs sizes made under w typed state
+
+    returns : Returns (types_of program) (owner_of program) (anything (Key program noted)) safe (ways program noted) handing
+        functions judged watch
+    returns key acts fs sizes under v w state =
         let its = run_there program noted key.one.of key.body key.there in
         lets.returned key.one v w (record {
           key = key;
@@ -203,11 +291,11 @@ module _ (program : List ModuleParts) (noted : List NotedParts) where
       where
         well : IsSeenWell (owner_of program) (watched_mean watch functions key.one input ticks)
         well =
-            watched_well (types_of program) (owner_of program) anything safe (ways program noted) functions judged watch
-            passes returns key entry input ticks
+            watched_well (types_of program) (owner_of program) (anything (Key program noted)) safe (ways program noted)
+            handing functions judged watch begins passes returns key entry input ticks
 
         by : IsOne
-            (begun (parameters_of (functions key.one)) (watched_at watch functions (suc ticks) key.one) (first_world input)
+            (begun (parameters_of (functions key.one)) (watched_at watch functions (suc ticks) None key.one) (first_world input)
             ticks)
             (begun (parameters_of (functions key.one)) (call_at functions (suc ticks) key.one) (first_world input) ticks)
             → watched_mean watch functions key.one input ticks ≡ mean functions key.one input ticks

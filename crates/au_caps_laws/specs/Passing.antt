@@ -1,5 +1,5 @@
 -- What is passed to functions and what they return, while an accepted program runs.
-use Rattle.std.specs.Prelude.{◌≡◌, ℕ, true, List, [], ◌∷◌, Some}
+use Rattle.std.specs.Prelude.{◌≡◌, ℕ, true, List, [], ◌∷◌, Option, None, Some}
 use Rattle.au_base.specs.Outside.{Files}
 use Rattle.au_syntax.specs.Plain.{Bytes}
 use Rattle.au_types.specs.Types.{Meaning}
@@ -58,16 +58,25 @@ module _ (program : List ModuleParts) where
     pub state : IsIn (types_of program) (owner_of program) acts frames sizes (onto made under) w
 
 module _ (program : List ModuleParts) (noted : List NotedParts) where
+  -- The function or method that makes a call, if one does, hands on types: they reach only what it hands on,
+  -- by the report's list, or what is given for its type parameters reaches.
+  abbrev pub AreHandedBy : Option Instance → List Meaning → Type 0
+  AreHandedBy None ts = Unit {0}
+  AreHandedBy (Some caller) ts =
+      (body : Bodied) × IsRunFor program noted caller.of body
+      × AreBoundedBy program caller.given (Hands program body) ts
+
   -- The precondition of calls: a function or method is called in one of its ways, what is passed to it is of
   -- the types of its parameters there, and these reach only what it holds, by the report's list, or what is
-  -- given for its type parameters reaches.
-  pub record IsPassedWell (one : Instance) (args : List Value) (w : World) : Type 0 where
+  -- given for its type parameters reaches; and what makes the call hands them on.
+  pub record IsPassedWell (caller : Option Instance) (one : Instance) (args : List Value) (w : World) : Type 0 where
     pub key : Key program noted
     pub called : key.one ≡ one
     pub typed : AreOf program args ((ways program noted).parameters key) w
     pub body : Bodied
     pub runs : IsRunFor program noted one.of body
     pub listed : AreBoundedBy program one.given (Holds program body) ((ways program noted).parameters key)
+    pub handed : AreHandedBy caller ((ways program noted).parameters key)
 
   -- The postcondition: what it returns is of the type of its result in one of its ways, and this reaches only
   -- what it hands on, by the report's list, or what is given for its type parameters reaches.
@@ -81,8 +90,8 @@ module _ (program : List ModuleParts) (noted : List NotedParts) where
 
   -- a watch lets pass what is passed and returned so
   pub record LetsPass (watch : Watch Instance) : Type 0 where
-    pub passed : (one : Instance) (args : List Value) (w : World) → IsPassedWell one args w
-        → watch.passed one args w ≡ true
+    pub passed : (caller : Option Instance) (one : Instance) (args : List Value) (w : World)
+        → IsPassedWell caller one args w → watch.passed caller one args w ≡ true
     pub returned : (one : Instance) (value : Value) (w : World) → IsReturnedWell one value w
         → watch.returned one value w ≡ true
 

@@ -314,7 +314,7 @@ held_below types owner {V} permits way ways w so = (
   },
 )
 
-good_below : {A : Type 0} (types : Types) (owner : ClosedType → Option (List ℕ)) {V W : Type 0}
+pub good_below : {A : Type 0} (types : Types) (owner : ClosedType → Option (List ℕ)) {V W : Type 0}
     (permits : Permits V W) (way : V) (ways : List V) (q : A → World → Type 0) (out : Out A)
     → GoodHeld types owner permits (way ∷ ways) q out → GoodHeld types owner permits ways q out
 good_below types owner permits way ways q (gives a w left) good = good
