@@ -1,18 +1,19 @@
 //! The steps of a machine: the next instruction, what it does, and one that waited for a byte.
 
-ghost use Rattle.std.specs.Prelude.{◌≡◌, ◌<◌, slice_get, IfOk, IfSome};
+ghost use Rattle.std.specs.Prelude.{◌≡◌, ◌<◌, IfOk, IfSome};
 ghost use Rattle.std.specs.Option.{option_copied};
 ghost use Rattle.au_low.specs.Instructions.{act};
 ghost use Rattle.au_low.specs.Runs.{fetched, heard};
 ghost use Rattle.au_machine.specs.States.{machine_of, turned, came, most_place, IsQuiet, came_still};
 ghost use Rattle.au_runs.specs.Orders.{heard_by};
 
-use crate::calling::{call, function_at, wrap};
+use crate::calling::{call, wrap};
 use crate::looping::{for_step, for_test};
 use crate::shipping::{hear_call, ship};
 use au_base::Memory;
-use au_low::{Code, Function, Instr, Mode};
+use au_low::{Code, Instr, Mode};
 use au_machine::{State, Turn};
+use au_strides::ends::{function_at, instr_at};
 use std::alloc::Global;
 
 /// Does an instruction.
@@ -82,15 +83,6 @@ pub fn act(state: &mut State, alloc: Global, code: &Code, instr: &Instr) -> Resu
     }
 }
 
-/// The instruction of a number.
-#[inline(always)]
-fn instr_at(function: &Function, place: usize) -> Option<&Instr>
-    ensures is { option_copied result ≡ slice_get function.now.code place }
-    ensures place { IfSome result (λ instr. place < most_place) }
-{
-    function.code.as_slice().get(place)
-}
-
 /// The instruction at the place that a state has reached.
 #[inline(always)]
 pub fn fetched<'a>(state: &State, code: &'a Code) -> Option<&'a Instr>
@@ -98,7 +90,7 @@ pub fn fetched<'a>(state: &State, code: &'a Code) -> Option<&'a Instr>
     ensures place { IfSome result (λ instr. state.now.place < most_place) }
 {
     match function_at(code, state.function) {
-        Some(function) => instr_at(function, state.place),
+        Some(function) => instr_at(function.code.as_slice(), state.place),
         None => None,
     }
 }
