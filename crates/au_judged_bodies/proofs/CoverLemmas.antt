@@ -1,13 +1,11 @@
 -- What names may hold in a scope whose body is covered, and what is written there.
-use Rattle.std.proofs.Common.{◌≡◌, ◌⊎◌, inl, inr, Bool, true, false, cond, List, [], ◌∷◌, ◌++◌, find, map}
+use Rattle.std.proofs.Common.{◌≡◌, inl, inr, Bool, true, false, cond, List, [], ◌∷◌, ◌++◌, find}
 use Rattle.std.proofs.Common.{Option, None, Some, Ok, Err, refl, sym, ap, ◌∙◌, subst}
 use Rattle.std.proofs.lemmas.Option.{none-some, same_Some}
 use Rattle.std.specs.Str.{bytes_eq}
 use Rattle.au_syntax.specs.declared.expressions.BorrowMode.{BorrowMode}
 use Rattle.au_syntax.specs.Plain.{Bytes}
-use Rattle.au_syntax.specs.Statements.{skip, declare, destructure, assign, assign_through, conditional}
-use Rattle.au_syntax.specs.Statements.{conditional_else, case_of, while_loop, for_loop, borrow_in, borrow_typed}
-use Rattle.au_syntax.specs.Statements.{discard, return_of}
+use Rattle.au_syntax.specs.Statements.{declare, destructure}
 use Rattle.au_syntax.specs.Types.{Bound, Labelled, WrittenType}
 use Rattle.au_types.specs.Types.{Meaning}
 use Rattle.au_types.proofs.SameLemmas.{same_is}
