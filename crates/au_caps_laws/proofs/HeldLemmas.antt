@@ -11,7 +11,6 @@ use Rattle.au_syntax.specs.Types.{WrittenType}
 use Rattle.au_types.specs.declared.parameters.Parameter.{Parameter}
 use Rattle.au_types.specs.declared.types.Region.{Region}
 use Rattle.au_types.specs.Meant.{meant}
-use Rattle.au_types.specs.Types as mean
 use Rattle.au_types.specs.Types.{Meaning, integer, reads, writes}
 use Rattle.au_matching.specs.Bindings.{Bindings}
 use Rattle.au_judged_types.specs.Bounds.{Bounded, parameters}

@@ -4,7 +4,7 @@ use Rattle.std.proofs.Common.{ap, subst}
 use Rattle.au_syntax.specs.declared.modules.Part.TheVariants.{Body}
 use Rattle.au_syntax.specs.Plain.{Bytes}
 use Rattle.au_syntax.specs.Types.{Labelled, WrittenType}
-use Rattle.au_types.specs.Types.{Meaning, integer, parameter, unit}
+use Rattle.au_types.specs.Types.{Meaning, integer, parameter}
 use Rattle.au_matching.specs.Bindings.{Bindings}
 use Rattle.au_matching.specs.Substituted.{substituted}
 use Rattle.au_matching.proofs.SubstitutedLemmas.{each_so}
