@@ -131,7 +131,8 @@ turns_alike zero test other m n one two = same _
 turns_alike (suc turns) test other m n one two =
     then_alike test other _ _ one (λ value.
     tick_alike _ _ (chosen_alike _ _ _ _ value
-    (row_alike m n (while_turns turns test m) (while_turns turns other n) two (turns_alike turns test other m n one two))
+    (row_alike m n (while_turns turns test m) (while_turns turns other n) two
+    (turns_alike turns test other m n one two))
     (same (pure falls))))
 
 range_alike : (turns : ℕ) (body other : ℤ → Action Flow) (z last : ℤ) → ((y : ℤ) → Alike (body y) (other y))
@@ -325,7 +326,8 @@ module _ {I T C : Type 0} (functions : I → Option (Function I T C)) (watch : W
   behind_alike : {A : Type 0} (test : A → World → Bool) (out other : Out A) → IsOne out other
       → IsOne (follows out (λ a. tested (test a) (pure a))) other
   unfolding follows
-  behind_alike {A} test out other (inl is) = subst (λ o. IsOne (follows out (λ a. tested (test a) (pure a))) o) is (by out)
+  behind_alike {A} test out other (inl is) = subst (λ o. IsOne (follows out (λ a. tested (test a) (pure a))) o) is
+      (by out)
     where
       at : (a : A) (w : World) (left : ℕ) (b : Bool) → IsOne (where_true b (pure a) w left) (gives a w left)
       at a w left true = inl refl
@@ -357,7 +359,8 @@ module _ {I T C : Type 0} (functions : I → Option (Function I T C)) (watch : W
       (enters_alike (watched_at watch functions depth (Some one)) (call_at functions depth)
       (λ other values. watched_alike depth (Some one) other values) depth (functions one) args) w ticks)
 
-  begun_alike : (fields : List Field) (f g : List Value → Action Value) → ((args : List Value) → Alike (f args) (g args))
+  begun_alike : (fields : List Field) (f g : List Value → Action Value)
+      → ((args : List Value) → Alike (f args) (g args))
       → Alike (begun fields f) (begun fields g)
   begun_alike [] f g each = each []
   begun_alike (p ∷ []) f g each = and_alike _ _ _ _ (same _) (each (values.root 0 ∷ []))

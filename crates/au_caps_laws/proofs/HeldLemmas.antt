@@ -71,11 +71,13 @@ use Rattle.au_caps_laws.proofs.RunForLemmas.{run_there}
 module _ (program : List ModuleParts) (noted : List NotedParts) where
   -- ---- what is permitted is what is listed
 
-  listed_for : (key : Key program noted) (t : Meaning) → IsPermitted (permits program noted) key t → IsListed program noted key t
+  listed_for : (key : Key program noted) (t : Meaning) → IsPermitted (permits program noted) key t → IsListed program
+      noted key t
   listed_for key t (one, way, type) =
       subst (IsListed program noted key) type (subst (λ k. IsListed program noted k one.type) way one.listed)
 
-  permitted_for : (key : Key program noted) (t : Meaning) → IsListed program noted key t → IsPermitted (permits program noted) key t
+  permitted_for : (key : Key program noted) (t : Meaning) → IsListed program noted key t → IsPermitted
+      (permits program noted) key t
   permitted_for key t its = (record { way = key; type = t; listed = its }, refl, refl)
 
   -- ---- integers and references

@@ -85,7 +85,8 @@ module _ (program : List ModuleParts) (b : Bodied) (given : Given) (s : Bindings
       → closed (running s 0 t) ≡ Some (closed_under given t)
   closes w t is =
       type_closes s 0 given t
-      (each_so (IsTypeName (params_of b)) (λ name. closed (substituted s (parameter name)) ≡ Some (given_for given name))
+      (each_so (IsTypeName (params_of b)) (λ name. closed (substituted s (parameter name)) ≡ Some
+      (given_for given name))
       (IsRegionName [] (params_of b)) (λ name. Unit {0}) stands.closes (λ name region. tt) t
       (meant_written [] (params_of b) (types_at program b.place Body) (heads_of program) w t is).names)
 
@@ -127,7 +128,8 @@ module _ (program : List ModuleParts) (noted : List NotedParts) where
       subst (λ (body : BodyOf). AreBoundedBy program key.one.given (Holds program b)
       (map (λ (p : Labelled Bytes). written_running program body key.s p.of) body.header.parameters)) same
       (parameters_listed program b key.one.given key.s
-      (subst (λ (body : BodyOf). StandsFor (heads_of program) (written_params body.generics) key.one.given key.s) (sym same)
+      (subst (λ (body : BodyOf). StandsFor (heads_of program) (written_params body.generics) key.one.given key.s)
+      (sym same)
       key.stands) b.header.parameters (λ f there. there))
 
   way_handed : (key : Key program noted) (b : Bodied) → run_as b ≡ key.body
@@ -136,7 +138,8 @@ module _ (program : List ModuleParts) (noted : List NotedParts) where
       subst (λ (body : BodyOf). IsBoundedBy program key.one.given (Hands program b)
       (written_running program body key.s body.header.result)) same
       (result_listed program b key.one.given key.s
-      (subst (λ (body : BodyOf). StandsFor (heads_of program) (written_params body.generics) key.one.given key.s) (sym same)
+      (subst (λ (body : BodyOf). StandsFor (heads_of program) (written_params body.generics) key.one.given key.s)
+      (sym same)
       key.stands))
 
   -- ---- what is handed on
@@ -185,7 +188,8 @@ module _ (program : List ModuleParts) (noted : List NotedParts) where
           (
             closed_under key.one.given t,
             subst (λ k. closed k ≡ Some (closed_under key.one.given t)) is
-                (known_closes (heads_of program) (parameters (generics_of program noted (run_as b) key.one.given)) regions
+                (known_closes (heads_of program) (parameters (generics_of program noted (run_as b) key.one.given))
+                regions
                 key.one.given s z t good.0 whole),
             λ h reaches.
                 arguments_handed program b key.one.given its.0 there h
@@ -250,17 +254,20 @@ module _ (program : List ModuleParts) (noted : List NotedParts) where
           handed = handed;
         })
 
-    begins : Begins (types_of program) (owner_of program) (anything (Key program noted)) safe (ways program noted) handing
+    begins : Begins (types_of program) (owner_of program) (anything (Key program noted)) safe (ways program noted)
+        handing
         functions judged watch
     begins key acts fs sizes made under w typed state =
         lets_pass None key tt acts fs sizes made under w typed state
 
-    passes : Passes (types_of program) (owner_of program) (anything (Key program noted)) safe (ways program noted) handing
+    passes : Passes (types_of program) (owner_of program) (anything (Key program noted)) safe (ways program noted)
+        handing
         functions judged watch
     passes call acts fs sizes made under w typed state =
         lets_pass (Some call.from.one) call.to call.handed acts fs sizes made under w typed state
 
-    returns : Returns (types_of program) (owner_of program) (anything (Key program noted)) safe (ways program noted) handing
+    returns : Returns (types_of program) (owner_of program) (anything (Key program noted)) safe (ways program noted)
+        handing
         functions judged watch
     returns key acts fs sizes under v w state =
         let its = run_there program noted key.one.of key.body key.there in
@@ -295,9 +302,11 @@ module _ (program : List ModuleParts) (noted : List NotedParts) where
             handing functions judged watch begins passes returns key entry input ticks
 
         by : IsOne
-            (begun (parameters_of (functions key.one)) (watched_at watch functions (suc ticks) None key.one) (first_world input)
+            (begun (parameters_of (functions key.one)) (watched_at watch functions (suc ticks) None key.one)
+            (first_world input)
             ticks)
-            (begun (parameters_of (functions key.one)) (call_at functions (suc ticks) key.one) (first_world input) ticks)
+            (begun (parameters_of (functions key.one)) (call_at functions (suc ticks) key.one) (first_world input)
+            ticks)
             → watched_mean watch functions key.one input ticks ≡ mean functions key.one input ticks
         by (inl same) = ap (seen ticks) same
         by (inr stuck) = absurd (no_stuck (owner_of program) ticks _ stuck well)

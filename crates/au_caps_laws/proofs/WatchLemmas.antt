@@ -29,7 +29,8 @@ use Rattle.au_caps_laws.specs.Watching.{Watch, tested, watched_at, watched_mean}
 
 module _ (types : Types) (owner : ClosedType → Option (List ℕ)) {K W : Type 0} (permits : Permits K W)
     (laws : RunsAreSafe types owner) {I T C E : Type 0} (known : Callables I K) (calls : Calls K E)
-    (functions : I → Option (Function I T C)) (all : AllRun types owner permits known calls functions) (watch : Watch I) where
+    (functions : I → Option (Function I T C)) (all : AllRun types owner permits known calls functions)
+    (watch : Watch I) where
   -- what is of the types of parameters passes in a way, from this caller
   abbrev PassesFrom : Option I → K → Type 0
   PassesFrom caller key =
@@ -110,7 +111,8 @@ module _ (types : Types) (owner : ClosedType → Option (List ℕ)) {K W : Type 
     abbrev Gave : Meaning → Value → World → Type 0
     Gave t v n = IsIn types owner [] [] [] ((v, t) ∷ []) n × (lying_in n ≡ [])
 
-    seen_well : (t : Meaning) → IsExitOf types t → (ticks : ℕ) (out : Out Value) → GoodHeld types owner permits [] (Gave t) out
+    seen_well : (t : Meaning) → IsExitOf types t → (ticks : ℕ) (out : Out Value) → GoodHeld types owner permits []
+        (Gave t) out
         → IsSeenWell owner (seen ticks out)
     seen_well t exits ticks (gives v n left) good =
         let told = laws.steps.actions.told [] [] [] ((v, t) ∷ []) n good.0 in
@@ -137,14 +139,16 @@ module _ (types : Types) (owner : ClosedType → Option (List ℕ)) {K W : Type 
           → GoodHeld types owner permits [] (Gave (known.result key))
           (begun ps (watched_at watch functions (suc depth) None (known.of key)) (first_world input) ticks)
       begun_good [] [] takes same input ticks =
-          enters_safe depth (calls_safe depth) None key (begins key) [] [] [] [] [] [] (first_world input) ticks (none_active (is_active [])) tt refl same
+          enters_safe depth (calls_safe depth) None key (begins key) [] [] [] [] [] [] (first_world input) ticks
+          (none_active (is_active [])) tt refl same
           (laws.starts types owner input)
       begun_good [] (p ∷ ps) takes same input ticks = absurd takes
       begun_good (t ∷ []) [] takes same input ticks = absurd takes
       begun_good (t ∷ []) (p ∷ []) takes same input ticks =
           good_does owner _ (Gave (known.result key)) (root_born p.of)
           (watched_at watch functions (suc depth) None (known.of key) (root 0 ∷ [])) (first_world input) ticks
-          (enters_safe depth (calls_safe depth) None key (begins key) [] [] [] [] ((root 0, t) ∷ []) [] (root_born p.of (first_world input)) ticks
+          (enters_safe depth (calls_safe depth) None key (begins key) [] [] [] [] ((root 0, t) ∷ []) []
+          (root_born p.of (first_world input)) ticks
           (none_active (is_active [])) tt refl same
           (laws.rooted [] [] [] [] (first_world input) t p.of takes.0 takes.1 (laws.starts types owner input)))
       begun_good (t ∷ []) (p ∷ r ∷ ps) takes same input ticks = absurd takes

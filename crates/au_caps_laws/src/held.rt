@@ -1,6 +1,7 @@
 //! Laws of what names hold while an accepted program runs.
 
-ghost use Rattle.au_caps_laws.specs.Held.{AcceptedCallsAreHeld, AcceptedEntriesAreListed, AcceptedRunsAreListed};
+ghost use Rattle.au_caps_laws.specs.Held.{AcceptedCallsAreHeld, AcceptedEntriesAreListed};
+ghost use Rattle.au_caps_laws.specs.Held.{AcceptedRunsAreListed};
 
 /// Wherever a run of an accepted program from an entry is cut off, each name that holds something holds a
 /// value of a type that reaches only what the function or method of its frame holds, by the report's list, or

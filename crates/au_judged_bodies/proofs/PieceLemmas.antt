@@ -169,8 +169,10 @@ unfolding universe_of
 integer_free heads params kind = refl
 
 module _ (types : Types) (owner : ClosedType → Option (List ℕ)) {I K : Type 0} (see : View I Note (Unit {0}))
-    (known : Callables I K) (may_hand : Meaning → Type 0) (given : Given) (Stands : Bindings → Type 0) (loose : ℕ → Bool) (result : Meaning)
-    {V W : Type 0} (permits : Permits V W) (key : V) (counts : (kind : IntKind) → IsPermitted permits key (integer kind)) where
+    (known : Callables I K) (may_hand : Meaning → Type 0) (given : Given) (Stands : Bindings → Type 0)
+    (loose : ℕ → Bool) (result : Meaning)
+    {V W : Type 0} (permits : Permits V W) (key : V) (counts : (kind : IntKind) → IsPermitted permits key
+    (integer kind)) where
   abbrev pub Place : (ℕ → Bool) → ℕ → Scope → meaning.Scope → Bindings → (ℕ → Meaning) → Type 0
   Place active number sc scope s names =
       PlaceFits types owner see known may_hand given Stands result active number sc scope s names
@@ -178,7 +180,8 @@ module _ (types : Types) (owner : ClosedType → Option (List ℕ)) {I K : Type 
   abbrev pub AllRun : NotedStatements → Type 0
   AllRun block =
       (active : ℕ → Bool) (number : ℕ) (sc : Scope) (scope : meaning.Scope) (s : Bindings) (names : ℕ → Meaning)
-      → Place active number sc scope s names → GoodBlock block sc → BesidesAll see loose (MayHold permits key Stands) may_hand number sc scope block
+      → Place active number sc scope s names → GoodBlock block sc → BesidesAll see loose (MayHold permits key Stands)
+      may_hand number sc scope block
       → RunsAll types owner see known result loose permits key active number scope block names
 
   module _ (active : ℕ → Bool) (number : ℕ) (sc : Scope) (scope : meaning.Scope) (s : Bindings) (names : ℕ → Meaning)
@@ -187,7 +190,8 @@ module _ (types : Types) (owner : ClosedType → Option (List ℕ)) {I K : Type 
     Whole e t = IsWholeOf types owner see known result loose permits key active names scope e t
 
     pub later_on : (later : ℕ) → number ≤ later → Place active later sc scope s names
-    later_on later less = place_later types owner see known may_hand given Stands result active number later sc scope s names less p
+    later_on later less = place_later types owner see known may_hand given Stands result active number later sc scope
+        s names less p
 
     pub wanted : (mode : Mode) (t : Meaning) → mode ≡ Some t → IsKnownIn sc t → ModeIsKnownIn sc mode
     wanted mode t is whole = subst (ModeIsKnownIn sc) (sym is) whole
@@ -199,10 +203,12 @@ module _ (types : Types) (owner : ClosedType → Option (List ℕ)) {I K : Type 
     pub wants_whole : (e : NotedExpression) (t : Meaning) → Wants sc e (Some t) → IsKnownIn sc t → is_lasting t ≡ true
         → Keeps see may_hand scope e → Whole e (running s 0 t)
     wants_whole e t good whole lasts keeps =
-        whole_of types owner see known may_hand given Stands result active number sc scope s names p loose permits key e t good.0
+        whole_of types owner see known may_hand given Stands result active number sc scope s names p loose permits
+        key e t good.0
         (wanted (mode_of e) t good.1 whole) keeps (had sc e t good.0 good.1) lasts
 
-    pub of_each : (e : NotedExpression) → AllGood sc e → ModeIsKnownIn sc (mode_of e) → Keeps see may_hand scope e → (z : ℕ)
+    pub of_each : (e : NotedExpression) → AllGood sc e → ModeIsKnownIn sc (mode_of e) → Keeps see may_hand scope e
+        → (z : ℕ)
         → IsOf types owner see known names z (with_token z active) scope e (running s z (type_of e))
     of_each e good mode keeps z =
         whole_at types owner see known may_hand given Stands result active number sc scope s names p e good mode keeps z
@@ -238,7 +244,8 @@ module _ (types : Types) (owner : ClosedType → Option (List ℕ)) {I K : Type 
         × LeadsOn types (running s 0 t) numbers (running s 0 part)
     part_at path t part whole is =
         part_leads types see names (with_token 0 active) sc scope s given 0
-        (frame_at types owner see known may_hand given Stands result active number sc scope s names p 0) path t part whole is
+        (frame_at types owner see known may_hand given Stands result active number sc scope s names p 0) path t part
+        whole is
 
     pub free_part : (path : List (Placed Bytes)) (t part : Meaning) → IsKnownIn sc t → IsPart sc t path part
         → is_free_in sc part ≡ true → types.is_free (running s 0 part) ≡ true
@@ -247,7 +254,8 @@ module _ (types : Types) (owner : ClosedType → Option (List ℕ)) {I K : Type 
 
     pub assigns : (x : Bytes) (path : List (Placed Bytes)) (v : Variable) (part : Meaning) → variable_of sc x ≡ Some v
         → IsPart sc v.of path part → is_free_in sc part ≡ true
-        → LooksInto types owner see known names 0 active (meaning.variable_of scope x) (names_of path) (running s 0 part)
+        → LooksInto types owner see known names 0 active (meaning.variable_of scope x) (names_of path)
+        (running s 0 part)
     assigns x path v part found is free =
         subst (λ o. LooksInto types owner see known names 0 active o (names_of path) (running s 0 part))
         (sym there.means) (
@@ -264,7 +272,8 @@ module _ (types : Types) (owner : ClosedType → Option (List ℕ)) {I K : Type 
         whole = p.knows.variables x v found
 
         leads : (numbers : List ℕ)
-            × (meaning.path_numbers (λ of. see.fields of 0) (Some (closed_under given v.of)) (names_of path) ≡ Some numbers)
+            × (meaning.path_numbers (λ of. see.fields of 0) (Some (closed_under given v.of)) (names_of path) ≡ Some
+            numbers)
             × LeadsOn types (running s 0 v.of) numbers (running s 0 part)
         leads = part_at path v.of part whole is
 
@@ -277,7 +286,8 @@ module _ (types : Types) (owner : ClosedType → Option (List ℕ)) {I K : Type 
     puts r path v to part region found same is =
         subst (λ o. Reaches types owner see known names 0 active o (names_of path) (region_running s 0 region)
         (running s 0 part)
-        (λ u. IsNamed types owner see known names 0 active o (writes u (region_running s 0 region)))) (sym there.means) (
+        (λ u. IsNamed types owner see known names 0 active o (writes u (region_running s 0 region))))
+        (sym there.means) (
           leads.0,
           running s 0 to,
           ap (λ o. meaning.path_numbers (λ u. see.fields u 0) o (names_of path))
@@ -299,7 +309,8 @@ module _ (types : Types) (owner : ClosedType → Option (List ℕ)) {I K : Type 
         last = subst (λ u. is_lasting u ≡ true) same (p.knows.lasting r v found)
 
         leads : (numbers : List ℕ)
-            × (meaning.path_numbers (λ of. see.fields of 0) (Some (closed_under given to)) (names_of path) ≡ Some numbers)
+            × (meaning.path_numbers (λ of. see.fields of 0) (Some (closed_under given to)) (names_of path) ≡ Some
+            numbers)
             × LeadsOn types (running s 0 to) numbers (running s 0 part)
         leads = part_at path to part parts.0 is
 
@@ -314,7 +325,8 @@ module _ (types : Types) (owner : ClosedType → Option (List ℕ)) {I K : Type 
 
     -- ---- bounds of loops
 
-    pub bounds_modes : (first second : Bool) (a b : NotedExpression) → PairedModes first second None (note_of a) (note_of b)
+    pub bounds_modes : (first second : Bool) (a b : NotedExpression) → PairedModes first second None (note_of a)
+        (note_of b)
         → AllGood sc a → AllGood sc b → ModeIsKnownIn sc (mode_of a) × ModeIsKnownIn sc (mode_of b)
     bounds_modes true true a b is ga gb = (unwanted (mode_of a) is.0, unwanted (mode_of b) is.1)
     bounds_modes false false a b is ga gb = (unwanted (mode_of a) is.0, unwanted (mode_of b) is.1)
@@ -328,7 +340,8 @@ module _ (types : Types) (owner : ClosedType → Option (List ℕ)) {I K : Type 
     pub bound_whole : (e : NotedExpression) (kind : IntKind) → AllGood sc e → ModeIsKnownIn sc (mode_of e)
         → Keeps see may_hand scope e → type_of e ≡ integer kind → Whole e (integer kind)
     bound_whole e kind good mode keeps is =
-        whole_of types owner see known may_hand given Stands result active number sc scope s names p loose permits key e (integer kind) good mode
+        whole_of types owner see known may_hand given Stands result active number sc scope s names p loose permits
+        key e (integer kind) good mode
         keeps is refl
 
     pub counter_fine : (kind : IntKind) → IsFine types loose permits key number (integer kind)
@@ -448,14 +461,27 @@ module _ (types : Types) (owner : ClosedType → Option (List ℕ)) {I K : Type 
     borrow_drops mode.Read region of z more value =
         inl (p.round.readers (running more 0 of) (region_running more 0 (Named region)))
     borrow_drops mode.Write region of z more value =
-        inr (running more 0 of, region_running more 0 (Named region), refl, inr (z, ap (λ o. region_for o region) value))
+        inr (
+          running more 0 of,
+          region_running more 0 (Named region),
+          refl,
+          inr
+              (z, ap (λ o. region_for o region) value),
+        )
     borrow_drops mode.Reborrow region of z more value =
-        inr (running more 0 of, region_running more 0 (Named region), refl, inr (z, ap (λ o. region_for o region) value))
+        inr (
+          running more 0 of,
+          region_running more 0 (Named region),
+          refl,
+          inr
+              (z, ap (λ o. region_for o region) value),
+        )
 
     pub lent_runs : (m : BorrowMode) (x r region : Bytes) (of : Meaning) (block : NotedStatements) → IsLent sc m x of
         → IsNewRegion sc region → GoodBlock block (with_reference r region (borrow_type m region of) sc)
         → MayHold permits key Stands (borrow_type m region of)
-        → BesidesAll see loose (MayHold permits key Stands) may_hand (number + 1) (with_reference r region (borrow_type m region of) sc)
+        → BesidesAll see loose (MayHold permits key Stands) may_hand (number + 1)
+        (with_reference r region (borrow_type m region of) sc)
         (meaning.with_reference m (meaning.variable_of scope x) number r scope) block → AllRun block
         → Lends types owner see known result loose permits key active number m (meaning.variable_of scope x) names
         (λ more of. RunsAll types owner see known result loose permits key more (number + 1)

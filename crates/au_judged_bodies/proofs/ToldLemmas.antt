@@ -91,7 +91,8 @@ same_through (t ∷ rest) = ap (λ l. t ∷ l) (same_through rest)
 
 module _ (kind : Access) (region : Region) where
   fields_closed : (given : Given) (fields : List Typed)
-      → map (field_as kind) (map (field_closed given) fields) ≡ map (field_closed given) (map (field_behind kind region) fields)
+      → map (field_as kind) (map (field_closed given) fields) ≡ map (field_closed given)
+      (map (field_behind kind region) fields)
   fields_closed given [] = refl
   fields_closed given (f ∷ rest) =
       λ i. record { name = f.name; of = sym (closed_refers given kind f.of region) i } ∷ fields_closed given rest i
@@ -116,7 +117,8 @@ module _ (kind : Access) (region : Region) where
 
   case_found : (target : Target) (base : List Case) (one : Case)
       → find (λ (c : Case). same_target target c.target) (map (case_behind kind region) base) ≡ Some one
-      → (c : Case) × (find (λ (x : Case). same_target target x.target) base ≡ Some c) × (case_behind kind region c ≡ one)
+      → (c : Case) × (find (λ (x : Case). same_target target x.target) base ≡ Some c)
+      × (case_behind kind region c ≡ one)
   case_found target [] one e = absurd (none-some one e)
   case_found target (c ∷ rest) one e = by (same_target target c.target) e (case_found target rest one)
     where
@@ -159,7 +161,8 @@ module _ (types : Types) {I : Type 0} (see : View I Note (Unit {0})) (given : Gi
     pub fields : (k : ℕ) (one : Case) → slice_get cases k ≡ Some one → AreApart (names_of one.fields)
 
 module _ (types : Types) (owner : ClosedType → Option (List ℕ)) {I K : Type 0} (see : View I Note (Unit {0}))
-    (known : Callables I K) (may_hand : Meaning → Type 0) (given : Given) (Stands : Bindings → Type 0) (result : Meaning)
+    (known : Callables I K) (may_hand : Meaning → Type 0) (given : Given) (Stands : Bindings → Type 0)
+    (result : Meaning)
     (active : ℕ → Bool) (number : ℕ) (sc : Scope) (scope : meaning.Scope) (s : Bindings) (names : ℕ → Meaning)
     (p : PlaceFits types owner see known may_hand given Stands result active number sc scope s names) where
   abbrev Tells : Note → Meaning → List Case → Type 0
@@ -273,7 +276,8 @@ module _ (types : Types) (owner : ClosedType → Option (List ℕ)) {I K : Type 
           (ap (λ (x : Case). x.target) same ∙ equal ∙ sym (ap (λ (x : Case). x.target) alike))
 
       fields_of : (k : ℕ) (one : Case)
-          → (d : Case) × (slice_get base k ≡ Some d) × (case_behind kind region d ≡ one) → AreApart (names_of one.fields)
+          → (d : Case) × (slice_get base k ≡ Some d) × (case_behind kind region d ≡ one) → AreApart
+          (names_of one.fields)
       fields_of k one (d, is, same) =
           subst (λ (x : Case). AreApart (names_of x.fields)) same
           (subst AreApart (sym (names_behind kind region d.fields)) (u.fields k d is))

@@ -113,7 +113,8 @@ module _ (region : Bytes) (value : Argument) (s : Bindings) where
       (λ name is. value_other name
       (λ same. not_a_region sc region new (subst (IsRegionName sc.regions (parameters_in sc)) same is))) t known.1)
 
-scope_opened : (region : Bytes) (sc : Scope) → ScopeIsKnown sc → ScopeIsKnown (record sc { regions = region ∷ sc.regions })
+scope_opened : (region : Bytes) (sc : Scope) → ScopeIsKnown sc → ScopeIsKnown
+    (record sc { regions = region ∷ sc.regions })
 scope_opened region sc scope =
     record {
       outside = scope.outside;
@@ -127,7 +128,8 @@ scope_opened region sc scope =
     }
 
 module _ (types : Types) (owner : ClosedType → Option (List ℕ)) {I K : Type 0} (see : View I Note (Unit {0}))
-    (known : Callables I K) (may_hand : Meaning → Type 0) (given : Given) (Stands : Bindings → Type 0) (result : Meaning) where
+    (known : Callables I K) (may_hand : Meaning → Type 0) (given : Given) (Stands : Bindings → Type 0)
+    (result : Meaning) where
   abbrev pub Place : (ℕ → Bool) → ℕ → Scope → meaning.Scope → Bindings → (ℕ → Meaning) → Type 0
   Place active number sc scope s names =
       PlaceFits types owner see known may_hand given Stands result active number sc scope s names
@@ -147,7 +149,8 @@ module _ (types : Types) (owner : ClosedType → Option (List ℕ)) {I K : Type 
       below_it k is = omega arith
 
   pub place_later : (active : ℕ → Bool) (number later : ℕ) (sc : Scope) (scope : meaning.Scope) (s : Bindings)
-      (names : ℕ → Meaning) → number ≤ later → Place active number sc scope s names → Place active later sc scope s names
+      (names : ℕ → Meaning) → number ≤ later → Place active number sc scope s names → Place active later sc scope s
+      names
   place_later active number later sc scope s names less p = record {
     round = p.round;
     knows = p.knows;
@@ -188,7 +191,8 @@ module _ (types : Types) (owner : ClosedType → Option (List ℕ)) {I K : Type 
       within = λ name is. more_usable active z (type_for (value_of name s) name) (p.within name is);
     }
 
-    pub whole_at : (e : NotedExpression) → AllGood sc e → ModeIsKnownIn sc (mode_of e) → Keeps see may_hand scope e → (z : ℕ)
+    pub whole_at : (e : NotedExpression) → AllGood sc e → ModeIsKnownIn sc (mode_of e) → Keeps see may_hand scope e
+        → (z : ℕ)
         → IsOf types owner see known names z (with_token z active) scope e (running s z (type_of e))
     whole_at e good wanted keeps z =
         runs types owner see known may_hand names (with_token z active) sc scope s given z (frame_at z)
@@ -196,7 +200,8 @@ module _ (types : Types) (owner : ClosedType → Option (List ℕ)) {I K : Type 
 
     -- of a type without `~`, it is of the same running type in each whole expression
     pub whole_of : (loose : ℕ → Bool) {V W : Type 0} (permits : Permits V W) (key : V) (e : NotedExpression)
-        (t : Meaning) → AllGood sc e → ModeIsKnownIn sc (mode_of e) → Keeps see may_hand scope e → type_of e ≡ t → is_lasting t ≡ true
+        (t : Meaning) → AllGood sc e → ModeIsKnownIn sc (mode_of e) → Keeps see may_hand scope e → type_of e ≡ t
+        → is_lasting t ≡ true
         → IsWholeOf types owner see known result loose permits key active names scope e (running s 0 t)
     whole_of loose permits key e t good wanted keeps same lasts z off =
         subst (λ u. IsOf types owner see known names z (with_token z active) scope e u)
@@ -229,7 +234,8 @@ module _ (types : Types) (owner : ClosedType → Option (List ℕ)) {I K : Type 
           variable = its.variable;
           means = ap (λ b. cond b (Some x) (meaning.variable_of scope name)) other ∙ its.means;
           below = below_it its.variable.number its.below;
-          stands = λ z. put_other number its.variable.number of names (differ its.variable.number its.below) ∙ its.stands z;
+          stands = λ z. put_other number its.variable.number of names (differ its.variable.number its.below) ∙
+              its.stands z;
           of = its.of;
         }
           where
@@ -278,7 +284,8 @@ module _ (types : Types) (owner : ClosedType → Option (List ℕ)) {I K : Type 
           (value_other region (in_region (token z)) s name
           (λ same. not_a_name sc region new (subst (IsTypeName (parameters_in sc)) same is)))
           (more_usable active z (type_for (value_of name s) name) (p.within name is));
-      returns = λ y. sym (opened_stays region (in_region (token z)) s sc new y sc.result p.knows.result.0) ∙ p.returns y;
+      returns = λ y. sym (opened_stays region (in_region (token z)) s sc new y sc.result p.knows.result.0) ∙
+          p.returns y;
     }
       where
         more : Bindings
@@ -309,7 +316,8 @@ module _ (types : Types) (owner : ClosedType → Option (List ℕ)) {I K : Type 
         scoped name is = by (bytes_eq name region) refl is
           where
             by : (b : Bool) → bytes_eq name region ≡ b
-                → (b || list_any (bytes_eq name) sc.regions ≡ true) ⊎ (universe_in (parameters_in sc) name ≡ Some universes.Region)
+                → (b || list_any (bytes_eq name) sc.regions ≡ true)
+                ⊎ (universe_in (parameters_in sc) name ≡ Some universes.Region)
                 → InScope (with_token z active) (region_for (value_of name more) name)
             by true found is =
                 inr (

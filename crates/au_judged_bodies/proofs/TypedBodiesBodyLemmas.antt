@@ -55,7 +55,8 @@ module _ (types : Types) (owner : ClosedType → Option (List ℕ)) {I K : Type 
     are : AreMeant sc ps ofs
     alike : WritesAlike last sc
     place : Place result active (number + length ofs) last
-        (meaning.with_parameters number (fields_given given ps ofs) scope) s (with_types number (kinds_given s ofs) names)
+        (meaning.with_parameters number (fields_given given ps ofs) scope) s
+        (with_types number (kinds_given s ofs) names)
 
   module _ (result : Meaning) (active : ℕ → Bool) (sc : Scope) (s : Bindings) where
     one_more : (p : Labelled Bytes) (rest : List (Labelled Bytes)) (of : Meaning) (number : ℕ) (cur : Scope)
@@ -76,7 +77,8 @@ module _ (types : Types) (owner : ClosedType → Option (List ℕ)) {I K : Type 
           (number + suc (length its.ofs)) last
           (meaning.with_parameters (suc number) (fields_given given rest its.ofs)
           (meaning.with_name p.name.name number (Some (closed_under given of)) scope)) s
-          (with_types (suc number) (kinds_given s its.ofs) (put number (running s 0 of) names)) (omega arith) its.place);
+          (with_types (suc number) (kinds_given s its.ofs) (put number (running s 0 of) names)) (omega arith)
+          its.place);
     }
       where
         same : suc number ≡ number + 1
@@ -91,7 +93,8 @@ module _ (types : Types) (owner : ClosedType → Option (List ℕ)) {I K : Type 
           ofs = [];
           are = tt;
           alike = alike;
-          place = place_later types owner see known may_hand given Stands result active number (number + 0) cur scope s names
+          place = place_later types owner see known may_hand given Stands result active number (number + 0) cur scope
+              s names
               (omega arith) p;
         })
     added (q ∷ rest) number cur scope names last alike p e =

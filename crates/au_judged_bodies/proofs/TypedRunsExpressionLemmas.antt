@@ -123,7 +123,8 @@ behind_is (mean.parameter name) target e = absurd (none-some target e)
 behind_is (mean.named at args) target e = absurd (none-some target e)
 
 module _ (types : Types) (owner : ClosedType → Option (List ℕ)) {I K : Type 0} (see : View I Note (Unit {0}))
-    (known : Callables I K) (may_hand : Meaning → Type 0) (names : ℕ → Meaning) (active : ℕ → Bool) (sc : Scope) (scope : meaning.Scope)
+    (known : Callables I K) (may_hand : Meaning → Type 0) (names : ℕ → Meaning) (active : ℕ → Bool) (sc : Scope)
+    (scope : meaning.Scope)
     (s : Bindings) (given : Given) (z : ℕ)
     (fits : FrameFits types see names active sc scope s given z)
     (calls : CallsRun types owner see known may_hand names active sc scope s given z) where
@@ -185,7 +186,8 @@ module _ (types : Types) (owner : ClosedType → Option (List ℕ)) {I K : Type 
       (region_running s z region) (run part) IsRef
   reaches x fields t target part region IsRef there whole behind is scoped parts its =
       let leads = part_leads types see names active sc scope s given z fits fields target part behind parts in
-      subst (λ o. Reaches types owner see known names z active o (names_of fields) (region_running s z region) (run part)
+      subst (λ o. Reaches types owner see known names z active o (names_of fields) (region_running s z region)
+      (run part)
       IsRef) (sym there.means) (
         leads.0,
         run target,
@@ -374,7 +376,8 @@ module _ (types : Types) (owner : ClosedType → Option (List ℕ)) {I K : Type 
 
   computed_of : (op : IntOp) (n : Note) (a b : NotedExpression) → is_integer n.of ≡ true
       → n.of ≡ type_of a → type_of a ≡ type_of b → Of a (run (type_of a)) → Of b (run (type_of b))
-      → Joins types owner see known (computes op) n (note_of a) (Of a) (Of b) ((k : ℕ) → IsKept see k scope b) (run n.of)
+      → Joins types owner see known (computes op) n (note_of a) (Of a) (Of b) ((k : ℕ) → IsKept see k scope b)
+      (run n.of)
   computed_of op n a b whole is same one other =
       let kind = integer_is n.of whole in (
         kind.0,
@@ -387,7 +390,8 @@ module _ (types : Types) (owner : ClosedType → Option (List ℕ)) {I K : Type 
   compared_of : (op : Order) (n : Note) (a b : NotedExpression) → n.of ≡ mean.truth
       → ((kind : IntKind) × (type_of a ≡ mean.integer kind)) ⊎ ((type_of a ≡ mean.truth) × IsEquality op)
       → type_of a ≡ type_of b → Of a (run (type_of a)) → Of b (run (type_of b))
-      → Joins types owner see known (compares op) n (note_of a) (Of a) (Of b) ((k : ℕ) → IsKept see k scope b) (run n.of)
+      → Joins types owner see known (compares op) n (note_of a) (Of a) (Of b) ((k : ℕ) → IsKept see k scope b)
+      (run n.of)
   compared_of op n a b is (inl (kind, its)) same one other = (
     ap run is,
     inl (
@@ -538,7 +542,8 @@ module _ (types : Types) (owner : ClosedType → Option (List ℕ)) {I K : Type 
           subst (Of c) (ap run (had sc c mean.truth good.2 good.1.0))
               (runs c good.2 (subst (ModeIsKnownIn sc) (sym good.1.0) is_truth) keeps.1),
           subst (Of a) (ap run (sym good.1.2)) (runs a good.3 modes.0 keeps.2),
-          subst (Of b) (ap run (sym (paired_type n.note.mode a b good.1.1) ∙ sym good.1.2)) (runs b good.4 modes.1 keeps.3),
+          subst (Of b) (ap run (sym (paired_type n.note.mode a b good.1.1) ∙ sym good.1.2))
+              (runs b good.4 modes.1 keeps.3),
           keeps.0,
         )
     runs (call n f es c) good wanted keeps =

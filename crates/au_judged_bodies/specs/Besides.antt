@@ -50,13 +50,16 @@ module _ {I : Type 0} (see : View I Note (Unit {0})) (loose : ℕ → Bool) (may
       × AreFineIn sc (suc number) rest
 
 -- and which types may be handed on as arguments
-module _ {I : Type 0} (see : View I Note (Unit {0})) (loose : ℕ → Bool) (may_hold may_hand : Meaning → Type 0) where
+module _ {I : Type 0} (see : View I Note (Unit {0})) (loose : ℕ → Bool)
+    (may_hold may_hand : Meaning → Type 0) where
   abbrev mutual
     pub Besides : ℕ → Scope → meaning.Scope → NotedStatement → Type 0
     Besides number sc scope (skip at) = Unit {0}
     Besides number sc scope (declare at binding x t e) =
-        Keeps see may_hand scope e × ((of : Meaning) → written_type sc t ≡ Ok of → IsFineIn see loose may_hold sc number of)
-    Besides number sc scope (destructure at binds e) = Keeps see may_hand scope e × AreFineIn see loose may_hold sc number binds
+        Keeps see may_hand scope e
+        × ((of : Meaning) → written_type sc t ≡ Ok of → IsFineIn see loose may_hold sc number of)
+    Besides number sc scope (destructure at binds e) =
+        Keeps see may_hand scope e × AreFineIn see loose may_hold sc number binds
     Besides number sc scope (assign at x fields e) = Keeps see may_hand scope e
     Besides number sc scope (assign_through at r fields e) = Keeps see may_hand scope e
     Besides number sc scope (conditional at tests) = BesidesTests number sc scope tests
@@ -64,7 +67,8 @@ module _ {I : Type 0} (see : View I Note (Unit {0})) (loose : ℕ → Bool) (may
         BesidesTests number sc scope tests × BesidesAll (number + meaning.names_in_tests tests) sc scope block
     Besides number sc scope (case_of at e all) = Keeps see may_hand scope e
         × BesidesArms number sc scope (note_of e) all
-    Besides number sc scope (while_loop at e block) = Keeps see may_hand scope e × BesidesAll number sc scope block
+    Besides number sc scope (while_loop at e block) =
+        Keeps see may_hand scope e × BesidesAll number sc scope block
     Besides number sc scope (for_loop at name first last block) =
         Keeps see may_hand scope first × Keeps see may_hand scope last
         × (may_hold (type_of first)

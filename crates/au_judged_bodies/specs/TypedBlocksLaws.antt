@@ -22,8 +22,8 @@ use Rattle.au_judged_bodies.specs.Rounds.{PlaceFits}
 -- A block that is good by the rules of typing runs in each frame that fits its scope, returns what the body
 -- returns, its names hold what they may, and arguments are of types that may be handed on.
 module _ (types : Types) (owner : ClosedType → Option (List ℕ)) {I K : Type 0} (see : View I Note (Unit {0}))
-    (known : Callables I K) (may_hand : Meaning → Type 0) (given : Given) (Stands : Bindings → Type 0) {V W : Type 0}
-    (permits : Permits V W) (key : V) where
+    (known : Callables I K) (may_hand : Meaning → Type 0) (given : Given) (Stands : Bindings → Type 0)
+    {V W : Type 0} (permits : Permits V W) (key : V) where
   abbrev pub BlocksRun : Type 0
   BlocksRun =
       (loose : ℕ → Bool) (result : Meaning) (block : NotedStatements) (active : ℕ → Bool) (number : ℕ)

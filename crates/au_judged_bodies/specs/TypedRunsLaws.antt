@@ -43,7 +43,8 @@ module _ (may_hand : Meaning → Type 0) where
   AreHandedLabelled no_arguments = Unit {0}
   AreHandedLabelled (arguments label e es) = may_hand (type_of e) × AreHandedLabelled es
 
-module _ {I : Type 0} (see : View I Note (Unit {0})) (may_hand : Meaning → Type 0) (scope : meaning.Scope) where
+module _ {I : Type 0} (see : View I Note (Unit {0})) (may_hand : Meaning → Type 0)
+    (scope : meaning.Scope) where
   abbrev mutual
     -- So it is all through an expression, and so are the branches of conditional ones; and the arguments of
     -- its calls are of types that may be handed on.
@@ -87,8 +88,8 @@ module _ (s : Bindings) (z : ℕ) where
       running s z (type_of e) ∷ kinds_labelled es
 
 module _ (types : Types) (owner : ClosedType → Option (List ℕ)) {I K : Type 0} (see : View I Note (Unit {0}))
-    (known : Callables I K) (may_hand : Meaning → Type 0) (names : ℕ → Meaning) (active : ℕ → Bool) (sc : Scope)
-    (scope : meaning.Scope) (s : Bindings) (given : Given) (z : ℕ) where
+    (known : Callables I K) (may_hand : Meaning → Type 0) (names : ℕ → Meaning) (active : ℕ → Bool)
+    (sc : Scope) (scope : meaning.Scope) (s : Bindings) (given : Given) (z : ℕ) where
   -- Good calls run where their arguments do, if these are of types that may be handed on.
   pub record CallsRun : Type 0 where
     pub in_order : (n : Node Note) (f : Placed Bytes) (es : NotedExpressions) (c : Unit {0})

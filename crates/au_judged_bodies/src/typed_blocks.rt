@@ -20,5 +20,6 @@ pub fn blocks_run<I, K, V, W, U, H>()
         (known : Callables I K) (handed : Permits U H) (from : U) (heads : List (DeclAt × Head))
         (params : List Parameter) (given : Given)
         (permits : Permits V W) (key : V)
-        → BlocksRun types owner see known (IsPermitted handed from) given (StandsFor heads params given) permits key }
+        → BlocksRun types owner see known (IsPermitted handed from) given (StandsFor heads params given)
+        permits key }
 {}

@@ -119,7 +119,8 @@ module _ (program : List ModuleParts) (noted : List NotedParts) (checked : IsChe
       by true is e =
           let its = type_named (heads_of program) (codes "Austral.Pervasive:RootCapability")
           (meant [] [] names (heads_of program) p.of) is in
-          let root : (types_of program).is_root (named its.0 no_arguments) ≡ true = ap (has_text root_text) its.3 ∙ its.4 in (
+          let root : (types_of program).is_root (named its.0 no_arguments) ≡ true = ap (has_text root_text) its.3 ∙
+          its.4 in (
             subst (λ t. (types_of program).is_root t ≡ true) (sym (runs_so p.of its.0 its.2)) root,
             subst (λ c. IsHomeOf (owner_of program) c (codes "Austral.Pervasive"))
                 (sym (ap (λ o. closed_or_unit (option_map (closed_under []) o))

@@ -72,7 +72,8 @@ EntriesRunWell program noted = IsChecked program noted → AllRunsAreSeenWell pr
 abbrev pub EntriesHoldWell : (program : List ModuleParts) (noted : List NotedParts) {W : Type 0}
     → Permits (Key program noted) W → Type 0
 EntriesHoldWell program noted permits =
-    IsChecked program noted → AreCovered program noted (anything (Key program noted)) permits → (target : Target)
+    IsChecked program noted → AreCovered program noted (anything (Key program noted)) permits
+    → (target : Target)
     → IsEntryHere program noted target → (first : Instance → ℕ) (input : List ℕ) (ticks : ℕ)
     → (key : Key program noted) × (key.one ≡ record { of = target; given = [] })
     × HoldsWhereCut (types_of program) (owner_of program) permits (key ∷ [])

@@ -43,7 +43,8 @@ module _ (program : List ModuleParts) (noted : List NotedParts) (body : BodyOf) 
   -- A body runs, with its parameters as the first names of its frame, at the running types of what is written
   -- for them and for its result.
   pub record BodyRuns (owner : ClosedType → Option (List ℕ)) {K : Type 0} (known : Callables Instance K)
-      {V W : Type 0} (permits : Permits V W) (key : V) (loose : ℕ → Bool) (active : ℕ → Bool) (first : ℕ) (s : Bindings) (names : ℕ → Meaning) : Type 0 where
+      {V W : Type 0} (permits : Permits V W) (key : V) (loose : ℕ → Bool) (active : ℕ → Bool) (first : ℕ)
+      (s : Bindings) (names : ℕ → Meaning) : Type 0 where
     pub ofs : List Meaning
     pub result : Meaning
     pub takes : AreMeant
@@ -72,7 +73,8 @@ module _ (program : List ModuleParts) (noted : List NotedParts) (body : BodyOf) 
       → ((name : List ℕ) → IsRegionName [] (parameters generics_of) name
       → InScope active (region_for (value_of name s) name))
       → TypesAreUsable active (parameters generics_of) s
-      → BesidesAll view_of loose (MayHold permits key (AreGoodHere program noted body.place generics_of given))
+      → BesidesAll view_of loose
+      (MayHold permits key (AreGoodHere program noted body.place generics_of given))
       may_hand (first + length (parameters_under program noted given body)) good.scope
       (meaning.with_parameters first (parameters_under program noted given body) []) body.block
       → BodyRuns owner known permits key loose active first s names
