@@ -131,8 +131,9 @@ turns_alike zero test other m n one two = same _
 turns_alike (suc turns) test other m n one two =
     then_alike test other _ _ one (λ value.
     tick_alike _ _ (chosen_alike _ _ _ _ value
-    (row_alike m n (while_turns turns test m) (while_turns turns other n) two (turns_alike turns test other m n one
-    two)) (same (pure falls))))
+    (row_alike m n (while_turns turns test m) (while_turns turns other n) two
+    (turns_alike turns test other m n one two))
+    (same (pure falls))))
 
 range_alike : (turns : ℕ) (body other : ℤ → Action Flow) (z last : ℤ) → ((y : ℤ) → Alike (body y) (other y))
     → Alike (for_turns turns body z last) (for_turns turns other z last)

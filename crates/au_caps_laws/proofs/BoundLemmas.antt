@@ -190,7 +190,8 @@ module _ (program : List ModuleParts) (noted : List NotedParts) (knows : KnowsAl
     may_bear (at, args, is) leads =
         may_make (a_birth at)
         (leads (a_birth at)
-        (subst (λ (t : Meaning). Contains (lists.birth_of t) (a_birth at)) (sym is) (Contains-first (a_birth at) []))) of
+        (subst (λ (t : Meaning). Contains (lists.birth_of t) (a_birth at)) (sym is)
+        (Contains-first (a_birth at) []))) of
         (λ h e. making.born at h
         (subst (λ (t : Meaning). head_closed program (closed_under one.given t) ≡ Some h) is e))
 
@@ -261,7 +262,8 @@ module _ (program : List ModuleParts) (noted : List NotedParts) (knows : KnowsAl
           → declared_leads program note target says ≡ lists.header_leads program note target h → Fits says
       function_fits h generics says is called one_is leads act does =
           by (prim_of (module_name program target.at.«module») h.name.name None) refl
-          (subst (λ (o : Option Called). Does (leading.called_leads program (rows_of program) one.given note target o) act)
+          (subst (λ (o : Option Called). Does (leading.called_leads program (rows_of program) one.given note target
+          o) act)
           called does)
         where
           led : (o : Option ShippedCall) → prim_of (module_name program target.at.«module») h.name.name None ≡ o
@@ -269,7 +271,8 @@ module _ (program : List ModuleParts) (noted : List NotedParts) (knows : KnowsAl
           led o e c there =
               leads_so says is c
               (subst (λ (l : List lists.Callee). Contains l c)
-              (ap (λ (x : Option ShippedCall). lists.function_leads (gives_birth x) note target) (sym e) ∙ sym leads) there)
+              (ap (λ (x : Option ShippedCall). lists.function_leads (gives_birth x) note target) (sym e) ∙ sym leads)
+              there)
 
           by : (o : Option ShippedCall) → prim_of (module_name program target.at.«module») h.name.name None ≡ o
               → Does (leading.shipped_or o (record {
@@ -338,13 +341,15 @@ module _ (program : List ModuleParts) (noted : List NotedParts) (knows : KnowsAl
                   × BodyMakes program noted x heads
                   → (y : Bodied) × IsRunAt program noted one.of y × BodyMakes program noted y heads
               on (x, at, (c, there, can)) =
-                  let leads = stands h named row its (option_and_then constructor_of (type_at note p.name.name)) refl x at in
+                  let leads = stands h named row its (option_and_then constructor_of (type_at note p.name.name)) refl
+                  x at in
                   may_make leads.0 (leads_so (class place n p methods) is leads.0 leads.1) u
                   (λ g same. subst (Makes program noted leads.0)
                   (same_Some heads g (sym e ∙ same))
                   (making.called leads.0 c x heads at.run.listed leads.2 there can)) heads e
 
-          by_prim : (h : Header Bytes) → h.name.name ≡ target.name → (row : Row) → KnowsRow program noted target.at t row
+          by_prim : (h : Header Bytes) → h.name.name ≡ target.name → (row : Row) → KnowsRow program noted target.at t
+              row
               → (o : Option ShippedCall)
               → prim_of (module_name program row.instance.«module») h.name.name (kind_of t) ≡ o
               → Does (leading.shipped_or (option_map (at_type t) o) (method_at h.name.name t row)) act → Stays act
@@ -368,7 +373,8 @@ module _ (program : List ModuleParts) (noted : List NotedParts) (knows : KnowsAl
               (option_map (leading.method_called p.name.name) o)) act → Stays act
           by_method None e does = none_does act does
           by_method (Some h) e does =
-              by_row h (sym ((bytes_eq-Decides target.name h.name.name).0 (found_passes (is_method target.name) methods h e).1))
+              by_row h (sym ((bytes_eq-Decides target.name h.name.name).0
+              (found_passes (is_method target.name) methods h e).1))
               (closed_row (rows_of program) (heads_of program) t target.at) refl does
 
       -- ---- all

@@ -56,7 +56,8 @@ module _ (program : List ModuleParts) (noted : List NotedParts) (erased : erase_
     pub index : ℕ
     pub there : slice_get (declarations_in m.body) index ≡ Some (erase_declaration x)
     pub is : ((d.part ≡ Body) × (d.says ≡ erase_declaration x))
-        ⊎ ((d.part ≡ Interface) × (find (defines (sight_of program d.place m) d.says) (declarations_in m.body) ≡ Some (erase_declaration x)))
+        ⊎ ((d.part ≡ Interface) × (find (defines (sight_of program d.place m) d.says) (declarations_in m.body) ≡ Some
+        (erase_declaration x)))
 
   seen_declarations : (o : Option Entry) → declarations_seen (option_map (λ (e : Entry). e.tree) o) ≡ declarations_in o
   seen_declarations None = refl
@@ -90,7 +91,8 @@ module _ (program : List ModuleParts) (noted : List NotedParts) (erased : erase_
         → IsDefinedBy d x
     defined_by x e = by d.part refl e
       where
-        promised : d.part ≡ Interface → (o : Option ℕ) → defining_in program d.place (slice_get program d.place) d.says ≡ o
+        promised : d.part ≡ Interface → (o : Option ℕ) → defining_in program d.place (slice_get program d.place)
+            d.says ≡ o
             → noted_at noted d.place o ≡ Some x → IsDefinedBy d x
         promised part None is e = absurd (none-some x e)
         promised part (Some index) is e =
@@ -104,7 +106,8 @@ module _ (program : List ModuleParts) (noted : List NotedParts) (erased : erase_
                 part,
                 position_found (defines (sight_of program d.place its.0) d.says) (declarations_in its.0.body) index
                     (erase_declaration x)
-                    (ap (position (defines (sight_of program d.place its.0) d.says)) (sym (seen_declarations its.0.body))
+                    (ap (position (defines (sight_of program d.place its.0) d.says))
+                    (sym (seen_declarations its.0.body))
                     ∙ ap (λ (o : Option ModuleParts). defining_in program d.place o d.says) (sym its.1) ∙ is)
                     its.2,
               );
@@ -142,7 +145,8 @@ function_name other = None
 
 module _ (program : List ModuleParts) (noted : List NotedParts) (erased : erase_program noted ≡ program) where
   -- the definition of a function has its name
-  defined_name : (d : Standing) (x : NotedDeclaration) → IsDefinedBy program noted erased d x → is_function d.says ≡ true
+  defined_name : (d : Standing) (x : NotedDeclaration) → IsDefinedBy program noted erased d x → is_function d.says
+      ≡ true
       → (function_name d.says ≡ function_defined (erase_declaration x)) ⊎ (bodied_in d.place x ≡ [])
   defined_name d x its function_is = by its.is
     where

@@ -280,7 +280,8 @@ module _ (sight : Sight) (params : List Parameter) where
   -- two names that are one word have one constructor
   word_constructor : (a b : Bytes) (args : List Given) (m : Meaning) (one : Constructor)
       → same_declaration a b (declaration_of (promised a)) (declaration_of (defined b)) ≡ true
-      → constructor_in (promised a) ≡ Some one → applied (defined b) args ≡ Some m → constructor_in (defined b) ≡ Some one
+      → constructor_in (promised a) ≡ Some one → applied (defined b) args ≡ Some m → constructor_in (defined b)
+      ≡ Some one
   word_constructor a b args m one word is means =
       by (universe_in params a) refl
       word is
@@ -295,7 +296,8 @@ module _ (sight : Sight) (params : List Parameter) where
       of_head y (Some head) at word is =
           declared_constructor (defined b) args m y
           (same_declared a b y (declaration_of (defined b))
-          (sym (ap (λ (o : Option DeclAt). same_declaration a b o (declaration_of (defined b))) (declares at)) ∙ word)) means
+          (sym (ap (λ (o : Option DeclAt). same_declaration a b o (declaration_of (defined b))) (declares at)) ∙
+          word)) means
           ∙ sym (constructs at) ∙ is
         where
           declares : head_of heads y ≡ Some head → declaration_of (Some (declared_sense heads y)) ≡ Some y
@@ -306,7 +308,8 @@ module _ (sight : Sight) (params : List Parameter) where
           constructs e = rw e refl
 
       visible_too : (o : Option DeclAt)
-          → same_declaration a b (declaration_of (option_map (declared_sense heads) o)) (declaration_of (defined b)) ≡ true
+          → same_declaration a b (declaration_of (option_map (declared_sense heads) o)) (declaration_of (defined b))
+          ≡ true
           → constructor_in (option_map (declared_sense heads) o) ≡ Some one → constructor_in (defined b) ≡ Some one
       visible_too None word is = absurd (none-some one is)
       visible_too (Some y) word is = of_head y (head_of heads y) refl word is
@@ -314,7 +317,8 @@ module _ (sight : Sight) (params : List Parameter) where
       built : universe_in params a ≡ None → (s : Option Sense) → tables.find a built_in ≡ s
           → same_declaration a b (declaration_of (sensed a None s (tables.find a sight.interface)))
           (declaration_of (defined b)) ≡ true
-          → constructor_in (sensed a None s (tables.find a sight.interface)) ≡ Some one → constructor_in (defined b) ≡ Some one
+          → constructor_in (sensed a None s (tables.find a sight.interface)) ≡ Some one → constructor_in (defined b)
+          ≡ Some one
       built none None at word is = visible_too (tables.find a sight.interface) word is
       built none (Some s) at word is =
           let same : a ≡ b = same_undeclared a b (declaration_of (defined b))

@@ -72,7 +72,8 @@ found_means (means u) t e = ap means (same_Some u t e)
 found_means (fails why) t e = absurd (none-some t e)
 
 -- what defines a promised instance is an instance of its class and type
-record IsInstance (sight : Sight) (scope : List Parameter) (name : Placed Bytes) (t : WrittenType) (e : PlainDeclaration)
+record IsInstance (sight : Sight) (scope : List Parameter) (name : Placed Bytes) (t : WrittenType)
+    (e : PlainDeclaration)
     : Type 0 where
   pub gs : List (Constrained Bytes)
   pub n : Placed Bytes
@@ -162,7 +163,8 @@ module _ (program : List ModuleParts) (noted : List NotedParts) (erased : erase_
   class_so : (part : Part) → f.text.part ≡ part
       → declared_class heads (tables.find f.text.name.name (visible program place f.m part)) ≡ Some row.class
   class_so part is =
-      subst (λ (names : List (Bytes × DeclAt)). declared_class heads (tables.find f.text.name.name names) ≡ Some row.class)
+      subst (λ (names : List (Bytes × DeclAt)). declared_class heads (tables.find f.text.name.name names) ≡ Some
+      row.class)
       (names_seen program place f.m f.here f.text.part f.names f.sees ∙ ap (visible program place f.m) is)
       (class_found heads [] f.names f.text.name.name row.class f.says.class)
 
@@ -266,7 +268,8 @@ module _ (program : List ModuleParts) (noted : List NotedParts) (erased : erase_
         constructor = λ c is m type_means.
             subst (λ (ps : List Parameter). constructor_written (sense_of [] ps sight.body heads) one.u ≡ Some c) params
             (written_constructor sight (written_params f.text.generics) f.text.of one.u m row.head c
-            (subst (λ (ps : List Parameter). same_written sight (written_params f.text.generics) ps f.text.of one.u ≡ true)
+            (subst (λ (ps : List Parameter). same_written sight (written_params f.text.generics) ps f.text.of one.u
+            ≡ true)
             (sym params) one.one_type)
             (type_so Interface i.part) is
             (subst (λ (ps : List Parameter). meant [] ps sight.body heads one.u ≡ Some m) (sym params) type_means));

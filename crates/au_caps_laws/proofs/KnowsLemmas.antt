@@ -61,7 +61,8 @@ module _ (program : List ModuleParts) (noted : List NotedParts) (checked : IsChe
       → (d : Standing) → standing_at program target.at ≡ Some d → Knows program noted b call target d
   knows_call one b run call listed target means d found = record {
     maker = λ name is.
-        named_by_maker program noted checked.derives one (run_as b) run.run.runs call listed target means d found name is;
+        named_by_maker program noted checked.derives one (run_as b) run.run.runs call listed target means d found
+        name is;
     birth = λ name names its of t leads is bears.
         named_by_birth program noted checked one (run_as b) run.run.runs call listed target means d found name names its
         of t leads is bears;

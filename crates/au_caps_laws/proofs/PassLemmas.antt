@@ -1,10 +1,9 @@
 -- What is passed in the ways in which functions are called, and what is returned, is listed.
-use Rattle.std.proofs.Common.{◌≡◌, inl, inr, ℕ, suc, true, List, [], ◌∷◌, map, Option, None, Some, Contains, refl, sym}
-use Rattle.std.proofs.Common.{ap, subst}
+use Rattle.std.proofs.Common.{◌≡◌, inl, inr, ℕ, suc, true, List, [], ◌∷◌, map, Option, None, Some, Contains, refl, sym, ap, subst}
 use Rattle.au_syntax.specs.declared.modules.Part.TheVariants.{Body}
 use Rattle.au_syntax.specs.Plain.{Bytes}
 use Rattle.au_syntax.specs.Types.{Labelled, WrittenType}
-use Rattle.au_types.specs.Types.{Meaning, integer, parameter}
+use Rattle.au_types.specs.Types.{Meaning, integer, parameter, unit}
 use Rattle.au_matching.specs.Bindings.{Bindings}
 use Rattle.au_matching.specs.Substituted.{substituted}
 use Rattle.au_matching.proofs.SubstitutedLemmas.{each_so}
@@ -63,8 +62,7 @@ use Rattle.au_sound.proofs.WireLemmas.{runs_are_safe}
 use Rattle.au_caps_lists.specs.Bodies.{Bodied, params_of}
 use Rattle.au_caps_lists.specs.Holding.{Hands, Holds}
 use Rattle.au_caps_laws.specs.Births.{run_as}
-use Rattle.au_caps_laws.specs.Passing.{AcceptedCallsAreListed, AreBoundedBy, AreHandedBy, CallsAreListed, IsBoundedBy}
-use Rattle.au_caps_laws.specs.Passing.{LetsPass}
+use Rattle.au_caps_laws.specs.Passing.{AcceptedCallsAreListed, AreBoundedBy, AreHandedBy, CallsAreListed, IsBoundedBy, LetsPass}
 use Rattle.au_caps_laws.specs.Reach.{ClosedReaches, IsReachedOrGiven, declared_in, meant_among}
 use Rattle.au_caps_laws.specs.Watching.{Watch, watched_at, watched_mean}
 use Rattle.au_caps_laws.proofs.AlikeLemmas.{IsOne, IsStuck, means_alike}
@@ -88,7 +86,8 @@ module _ (program : List ModuleParts) (b : Bodied) (given : Given) (s : Bindings
   closes w t is =
       type_closes s 0 given t
       (each_so (IsTypeName (params_of b)) (λ name. closed (substituted s (parameter name)) ≡ Some
-      (given_for given name)) (IsRegionName [] (params_of b)) (λ name. Unit {0}) stands.closes (λ name region. tt) t
+      (given_for given name))
+      (IsRegionName [] (params_of b)) (λ name. Unit {0}) stands.closes (λ name region. tt) t
       (meant_written [] (params_of b) (types_at program b.place Body) (heads_of program) w t is).names)
 
   -- it is listed where what it reaches is
@@ -130,7 +129,8 @@ module _ (program : List ModuleParts) (noted : List NotedParts) where
       (map (λ (p : Labelled Bytes). written_running program body key.s p.of) body.header.parameters)) same
       (parameters_listed program b key.one.given key.s
       (subst (λ (body : BodyOf). StandsFor (heads_of program) (written_params body.generics) key.one.given key.s)
-      (sym same) key.stands) b.header.parameters (λ f there. there))
+      (sym same)
+      key.stands) b.header.parameters (λ f there. there))
 
   way_handed : (key : Key program noted) (b : Bodied) → run_as b ≡ key.body
       → IsBoundedBy program key.one.given (Hands program b) ((ways program noted).result key)
@@ -139,7 +139,8 @@ module _ (program : List ModuleParts) (noted : List NotedParts) where
       (written_running program body key.s body.header.result)) same
       (result_listed program b key.one.given key.s
       (subst (λ (body : BodyOf). StandsFor (heads_of program) (written_params body.generics) key.one.given key.s)
-      (sym same) key.stands))
+      (sym same)
+      key.stands))
 
   -- ---- what is handed on
 
@@ -188,7 +189,8 @@ module _ (program : List ModuleParts) (noted : List NotedParts) where
             closed_under key.one.given t,
             subst (λ k. closed k ≡ Some (closed_under key.one.given t)) is
                 (known_closes (heads_of program) (parameters (generics_of program noted (run_as b) key.one.given))
-                regions key.one.given s z t good.0 whole),
+                regions
+                key.one.given s z t good.0 whole),
             λ h reaches.
                 arguments_handed program b key.one.given its.0 there h
                 (subst (λ u. ClosedReaches program (closed_under key.one.given u) h) (sym its.2) reaches),
@@ -252,20 +254,20 @@ module _ (program : List ModuleParts) (noted : List NotedParts) where
           handed = handed;
         })
 
-    begins : Begins (types_of program) (owner_of program) (anything (Key program noted)) safe
-        (ways program noted) handing
+    begins : Begins (types_of program) (owner_of program) (anything (Key program noted)) safe (ways program noted)
+        handing
         functions judged watch
     begins key acts fs sizes made under w typed state =
         lets_pass None key tt acts fs sizes made under w typed state
 
-    passes : Passes (types_of program) (owner_of program) (anything (Key program noted)) safe
-        (ways program noted) handing
+    passes : Passes (types_of program) (owner_of program) (anything (Key program noted)) safe (ways program noted)
+        handing
         functions judged watch
     passes call acts fs sizes made under w typed state =
         lets_pass (Some call.from.one) call.to call.handed acts fs sizes made under w typed state
 
-    returns : Returns (types_of program) (owner_of program) (anything (Key program noted)) safe
-        (ways program noted) handing
+    returns : Returns (types_of program) (owner_of program) (anything (Key program noted)) safe (ways program noted)
+        handing
         functions judged watch
     returns key acts fs sizes under v w state =
         let its = run_there program noted key.one.of key.body key.there in
@@ -301,7 +303,8 @@ module _ (program : List ModuleParts) (noted : List NotedParts) where
 
         by : IsOne
             (begun (parameters_of (functions key.one)) (watched_at watch functions (suc ticks) None key.one)
-            (first_world input) ticks)
+            (first_world input)
+            ticks)
             (begun (parameters_of (functions key.one)) (call_at functions (suc ticks) key.one) (first_world input)
             ticks)
             → watched_mean watch functions key.one input ticks ≡ mean functions key.one input ticks

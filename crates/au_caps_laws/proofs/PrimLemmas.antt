@@ -123,14 +123,16 @@ module _ (program : List ModuleParts) (gathered : IsGathered program)
           true≢false (sym (all_among no_instance (instance i.at f.text.generics f.text.name f.text.of)
           e.tree.declarations (rest (of_births (joined e.tree.name))
           (sym (ap (λ (x : ModuleParts). of_births x.name) same) ∙ is) test)
-          (among_get e.tree.declarations f.text.number.decl (instance i.at f.text.generics f.text.name f.text.of) there)))
+          (among_get e.tree.declarations f.text.number.decl (instance i.at f.text.generics f.text.name f.text.of)
+          there)))
         where
           rest : (b : Bool) → b ≡ true → (not b || list_all no_instance e.tree.declarations) ≡ true
               → list_all no_instance e.tree.declarations ≡ true
           rest true is e = e
           rest false is e = absurd (true≢false (sym is))
       in_file e among same (inr i) =
-          absurd (none-some _ (sym (ap (λ (x : ModuleParts). slice_get (declarations_in x.body) i.index) same) ∙ i.stands))
+          absurd (none-some _ (sym (ap (λ (x : ModuleParts). slice_get (declarations_in x.body) i.index) same) ∙
+          i.stands))
 
       by : ((e : Entry) × Among e (map entry_of shipped_files) × (f.m ≡ shipped_module e))
           ⊎ ((e : Entry) × Among e gathered.own × (is_interface e.tree.part ≡ false)

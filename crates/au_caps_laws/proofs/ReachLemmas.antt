@@ -47,7 +47,8 @@ use Rattle.au_caps_laws.proofs.TextLemmas.{block_handed, block_held}
 module _ (given : Given) (a : DeclAt) where
   -- where a declared type of a closed type comes from: it is mentioned, or it stands in what is given
   abbrev Comes : List Mention → Type 0
-  Comes all = Among (declared a) all ⊎ ((name : Bytes) × Among (generic name) all × Among a (declared_in (given_for given name)))
+  Comes all = Among (declared a) all ⊎ ((name : Bytes) × Among (generic name) all × Among a
+      (declared_in (given_for given name)))
 
   left : (xs ys : List Mention) → Comes xs → Comes (xs ++ ys)
   left xs ys (inl m) = inl (among-append_left xs ys (declared a) m)
@@ -71,7 +72,8 @@ module _ (given : Given) (a : DeclAt) where
     comes (whole.reads t region) m = comes t m
     comes (whole.writes t region) m = comes t m
 
-    all_come : (args : Arguments) → Among a (declared_in_all (all_closed_under given args)) → Comes (mentions_in_all args)
+    all_come : (args : Arguments) → Among a (declared_in_all (all_closed_under given args)) → Comes
+        (mentions_in_all args)
     all_come whole.no_arguments m = absurd m
     all_come (whole.arguments (whole.of_type t) rest) m =
         by (among-append (declared_in (closed_under given t)) (declared_in_all (all_closed_under given rest)) a m)
@@ -92,19 +94,30 @@ types_reach program given t h (a, there, reaches) =
     by : Comes given a (mentions t) → GivenReaches program given (mentions t) h
     by (inl m) = inl (a, contains (mentions t) (declared a) m, reaches)
     by (inr (name, m, its)) =
-        inr (name, contains (mentions t) (generic name) m, (a, contains (declared_in (given_for given name)) a its, reaches))
+        inr (
+          name,
+          contains (mentions t) (generic name) m,
+          (
+            a,
+            contains (declared_in (given_for given name)) a its,
+            reaches,
+          ),
+        )
 
 -- ---- written types
 
 -- what isn't a region means the same where no region is open
-not_open : (opened : List Bytes) (params : List Parameter) (visible : List (Bytes × DeclAt)) (heads : List (DeclAt × Head))
+not_open : (opened : List Bytes) (params : List Parameter) (visible : List (Bytes × DeclAt))
+    (heads : List (DeclAt × Head))
     (name : Bytes) (s : Sense) → sense_of opened params visible heads name ≡ Some s
     → ((r : Region) → s ≡ senses.a_region r → ⊥) → sense_of [] params visible heads name ≡ Some s
 not_open opened params visible heads name s e no_region = by (list_any (bytes_eq name) opened) e
   where
     by : (b : Bool) → option_or (if b then Some (senses.a_region (regions.Named name)) else None)
-        (option_or (option_map (parameter_sense name) (universe_in params name)) (outer_sense visible heads name)) ≡ Some s
-        → option_or (option_map (parameter_sense name) (universe_in params name)) (outer_sense visible heads name) ≡ Some s
+        (option_or (option_map (parameter_sense name) (universe_in params name)) (outer_sense visible heads name))
+        ≡ Some s
+        → option_or (option_map (parameter_sense name) (universe_in params name)) (outer_sense visible heads name)
+        ≡ Some s
     by true e = absurd (no_region (regions.Named name) (sym (same_Some (senses.a_region (regions.Named name)) s e)))
     by false e = e
 
@@ -123,7 +136,8 @@ span_text (a ∷ []) t e = absurd (none-some t e)
 span_text (a ∷ b ∷ []) t e = span_is a.as_type b.as_region t e
 span_text (a ∷ b ∷ c ∷ more) t e = absurd (none-some t e)
 
-module _ (opened : List Bytes) (params : List Parameter) (visible : List (Bytes × DeclAt)) (heads : List (DeclAt × Head))
+module _ (opened : List Bytes) (params : List Parameter) (visible : List (Bytes × DeclAt))
+    (heads : List (DeclAt × Head))
     (m : Mention) where
   abbrev sense : Bytes → Option Sense
   sense = sense_of [] params visible heads
@@ -142,28 +156,32 @@ module _ (opened : List Bytes) (params : List Parameter) (visible : List (Bytes 
     where
       by : (o : Option Region) → option_map whole.in_region o ≡ Some a → Among m (written_mentions sense t)
       by None e = absurd (none-some a e)
-      by (Some r) e = absurd (subst (λ (x : Argument). Among m (mentions_in x)) (sym (same_Some (whole.in_region r) a e)) there)
+      by (Some r) e = absurd (subst (λ (x : Argument). Among m (mentions_in x))
+          (sym (same_Some (whole.in_region r) a e)) there)
   in_argument universes.Free t one a is e stands there = as_type one.as_type is e
     where
       as_type : (o : Option Meaning) → o ≡ means t → option_map whole.of_type o ≡ Some a
           → Among m (written_mentions sense t)
       as_type None is e = absurd (none-some a e)
       as_type (Some u) is e =
-          stands u (sym is) (subst (λ (x : Argument). Among m (mentions_in x)) (sym (same_Some (whole.of_type u) a e)) there)
+          stands u (sym is) (subst (λ (x : Argument). Among m (mentions_in x))
+          (sym (same_Some (whole.of_type u) a e)) there)
   in_argument universes.Linear t one a is e stands there = as_type one.as_type is e
     where
       as_type : (o : Option Meaning) → o ≡ means t → option_map whole.of_type o ≡ Some a
           → Among m (written_mentions sense t)
       as_type None is e = absurd (none-some a e)
       as_type (Some u) is e =
-          stands u (sym is) (subst (λ (x : Argument). Among m (mentions_in x)) (sym (same_Some (whole.of_type u) a e)) there)
+          stands u (sym is) (subst (λ (x : Argument). Among m (mentions_in x))
+          (sym (same_Some (whole.of_type u) a e)) there)
   in_argument universes.AnyType t one a is e stands there = as_type one.as_type is e
     where
       as_type : (o : Option Meaning) → o ≡ means t → option_map whole.of_type o ≡ Some a
           → Among m (written_mentions sense t)
       as_type None is e = absurd (none-some a e)
       as_type (Some u) is e =
-          stands u (sym is) (subst (λ (x : Argument). Among m (mentions_in x)) (sym (same_Some (whole.of_type u) a e)) there)
+          stands u (sym is) (subst (λ (x : Argument). Among m (mentions_in x))
+          (sym (same_Some (whole.of_type u) a e)) there)
 
   AllStand : WrittenTypes → Type 0
   AllStand args =
@@ -182,14 +200,19 @@ module _ (opened : List Bytes) (params : List Parameter) (visible : List (Bytes 
       (arguments_meant expected (all_given opened params visible heads rest)) refl e
     where
       by : (a : Option Argument)
-          → argument_meant p.universe (record { as_type = means t; as_region = region_meant opened params visible heads t })
+          → argument_meant p.universe (record {
+            as_type = means t;
+            as_region = region_meant opened params visible
+                heads t;
+          })
           ≡ a → (o : Option Arguments) → arguments_meant expected (all_given opened params visible heads rest) ≡ o
           → followed a o ≡ Some these → Among m (written_mentions sense t ++ all_written sense rest)
       by None is o its e = absurd (none-some these e)
       by (Some a) is None its e = absurd (none-some these e)
       by (Some a) is (Some more) its e =
           split (among-append (mentions_in a) (mentions_in_all more) m
-          (subst (λ (x : Arguments). Among m (mentions_in_all x)) (sym (same_Some (whole.arguments a more) these e)) there))
+          (subst (λ (x : Arguments). Among m (mentions_in_all x)) (sym (same_Some (whole.arguments a more) these e))
+          there))
         where
           split : Among m (mentions_in a) ⊎ Among m (mentions_in_all more)
               → Among m (written_mentions sense t ++ all_written sense rest)
@@ -209,13 +232,15 @@ module _ (opened : List Bytes) (params : List Parameter) (visible : List (Bytes 
       among-append_left (mentions_of (sense name)) (all_written sense args) m
       (subst (λ (o : Option Sense). Among m (mentions_of o))
       (sym (not_open opened params visible heads name (senses.a_type t) at (λ r same. cc)))
-      (subst (λ (x : Meaning). Among m (mentions x)) (sym (alone_is (all_given opened params visible heads args) e)) there))
+      (subst (λ (x : Meaning). Among m (mentions x)) (sym (alone_is (all_given opened params visible heads args) e))
+      there))
     where
       alone_is : (list : List Means) → alone t list ≡ Some u → t ≡ u
       alone_is [] e = same_Some t u e
       alone_is (a ∷ more) e = absurd (none-some u e)
   in_named name args (Some senses.a_span) at all u e there =
-      absurd (subst (λ (x : Meaning). Among m (mentions x)) (span_text (all_given opened params visible heads args) u e) there)
+      absurd (subst (λ (x : Meaning). Among m (mentions x)) (span_text (all_given opened params visible heads args) u
+      e) there)
   in_named name args (Some (senses.a_region r)) at all u e there = absurd (none-some u e)
   in_named name args (Some (senses.declared d expected)) at all u e there =
       by (arguments_meant expected (all_given opened params visible heads args)) refl e
@@ -231,7 +256,8 @@ module _ (opened : List Bytes) (params : List Parameter) (visible : List (Bytes 
           split (inl here) =
               among-append_left (mentions_of (sense name)) (all_written sense args) m
               (subst (λ (o : Option Sense). Among m (mentions_of o))
-              (sym (not_open opened params visible heads name (senses.declared d expected) at (λ r same. cc))) (inl here))
+              (sym (not_open opened params visible heads name (senses.declared d expected) at (λ r same. cc)))
+              (inl here))
           split (inr behind) =
               among-append_right (mentions_of (sense name)) (all_written sense args) m (all expected these is behind)
   in_named name args (Some (senses.a_class c)) at all u e there = absurd (none-some u e)
@@ -260,12 +286,14 @@ module _ (opened : List Bytes) (params : List Parameter) (visible : List (Bytes 
 
     all_stand_in : (args : WrittenTypes) → AllStand args
     all_stand_in no_types [] these e there =
-        absurd (subst (λ (x : Arguments). Among m (mentions_in_all x)) (sym (same_Some whole.no_arguments these e)) there)
+        absurd (subst (λ (x : Arguments). Among m (mentions_in_all x)) (sym (same_Some whole.no_arguments these e))
+        there)
     all_stand_in no_types (p ∷ expected) these e there = absurd (none-some these e)
     all_stand_in (types t rest) expected these e there =
         in_arguments t rest (stands_in t) (all_stand_in rest) expected these e there
 
-in_written : (opened : List Bytes) (params : List Parameter) (visible : List (Bytes × DeclAt)) (heads : List (DeclAt × Head))
+in_written : (opened : List Bytes) (params : List Parameter) (visible : List (Bytes × DeclAt))
+    (heads : List (DeclAt × Head))
     (m : Mention) (t : WrittenType) (u : Meaning) → meant opened params visible heads t ≡ Some u → Among m (mentions u)
     → Among m (written_mentions (sense_of [] params visible heads) t)
 unfolding Stands
@@ -301,7 +329,8 @@ module _ (program : List ModuleParts) (b : Bodied) (given : Given) where
       (written_types_reach program [] (params_of b) (types_at program b.place Body) (heads_of program) given f.of t is h
       reaches)
     where
-      more : (x : Mention) → Contains (written_mentions (sense_in program b) f.of) x → Contains (held_mentions program b) x
+      more : (x : Mention) → Contains (written_mentions (sense_in program b) f.of) x → Contains
+          (held_mentions program b) x
       more x c =
           contains (held_mentions program b) x
           (among-append_left (field_mentions (sense_in program b) b.header.parameters)
@@ -313,7 +342,8 @@ module _ (program : List ModuleParts) (b : Bodied) (given : Given) where
   pub variables_held : VariablesAreHeld program b given
   variables_held written there opened t is h reaches =
       reached_so (written_mentions (sense_in program b) written) (held_mentions program b) more h
-      (written_types_reach program opened (params_of b) (types_at program b.place Body) (heads_of program) given written t is
+      (written_types_reach program opened (params_of b) (types_at program b.place Body) (heads_of program) given
+      written t is
       h reaches)
     where
       more : (x : Mention) → Contains (written_mentions (sense_in program b) written) x

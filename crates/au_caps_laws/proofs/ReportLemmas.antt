@@ -82,7 +82,8 @@ module _ (program : List ModuleParts) (noted : List NotedParts) where
         → IsInRow program noted report one.of of
     in_row report is one of made h e =
         let its = made h e in
-        let row = row_there (all_bodied noted) report.rows is its.0 (among (all_bodied noted) its.0 its.1.run.listed) in (
+        let row = row_there (all_bodied noted) report.rows is its.0 (among (all_bodied noted) its.0 its.1.run.listed)
+        in (
           its.0,
           row.0,
           its.1.run,

@@ -90,7 +90,8 @@ module _ (P : ClosedType → Type 0) where
   range_keeps zero body z last each = over_keeps P _
   range_keeps (suc turns) body z last each =
       row_keeps (body z) _ (each z)
-      (tick_keeps P _ (if_keeps (int_lt z last) _ _ (range_keeps turns body (z +ℤ pos 1) last each) (pure_keeps P falls)))
+      (tick_keeps P _ (if_keeps (int_lt z last) _ _ (range_keeps turns body (z +ℤ pos 1) last each)
+      (pure_keeps P falls)))
 
   numbers_keep : (a b : Option (IntKind × ℤ)) (go : IntKind → ℤ → ℤ → Action Flow)
       → ((kind : IntKind) (x y : ℤ) → Keeps P (go kind x y)) → Keeps P (both_numbers a b go)
@@ -132,7 +133,8 @@ module _ (P : ClosedType → Type 0) where
 
   sets_keep : (name : ℕ) (path : List ℕ) (value : Value) → Keeps P (sets name path value)
   sets_keep name path value w ticks =
-      takes_at w ticks (exchanged (place_of name path w) value w.store) (exchanged_bears P (place_of name path w) value w.store)
+      takes_at w ticks (exchanged (place_of name path w) value w.store)
+      (exchanged_bears P (place_of name path w) value w.store)
 
   apart_keeps : (value : Value) → Keeps P (apart value)
   apart_keeps values.unit = stuck_keeps P _
@@ -344,7 +346,8 @@ begun_bears functions Q bounds entry input ticks (p ∷ []) =
     first_of functions Q entry w ticks ticks _ (the_root p.of)
     (calls_bear_within functions Q bounds (suc ticks) entry (values.root 0 ∷ []) w ticks)
 begun_bears functions Q bounds entry input ticks (p ∷ q ∷ more) =
-    first_of functions Q entry (first_world input) ticks ticks _ no_root (stuck_keeps (Q entry) _ (first_world input) ticks)
+    first_of functions Q entry (first_world input) ticks ticks _ no_root
+    (stuck_keeps (Q entry) _ (first_world input) ticks)
 
 pub runs_bear_within : {I T C : Type 0} (functions : I → Option (Function I T C)) (Q : I → ClosedType → Type 0)
     → RunsBearWithin functions Q

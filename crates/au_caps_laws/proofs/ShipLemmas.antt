@@ -286,7 +286,8 @@ module _ (P : ClosedType → Type 0) where
   shipped_bears (prim.Wrap op kind) o s args may = nothing_it s
   shipped_bears (prim.Convert kind) o s args may = nothing_it s
   shipped_bears prim.SurrenderRoot o s args may =
-      untyped_bears s o _ (one_bears s _ args (λ a. given_bears s _ _ (λ id. gives_it s _ _ (bears_spends P (Some id) s))))
+      untyped_bears s o _ (one_bears s _ args (λ a. given_bears s _ _
+      (λ id. gives_it s _ _ (bears_spends P (Some id) s))))
   shipped_bears prim.Abort o s args may =
       untyped_bears s o _ (one_bears s _ args (λ a. given_bears s _ _ (λ t. aborts_it s _ s (bears_same P s s refl))))
   shipped_bears prim.SpanLength o s args may =
@@ -295,7 +296,8 @@ module _ (P : ClosedType → Type 0) where
       untyped_bears s o _ (two_bears s _ args (λ a new.
       given_bears s _ _ (λ one. pair_bears s (put_behind one new s) (put_bears one new s))))
   shipped_bears prim.MakeBox o s args may =
-      one_bears s _ args (λ a. of_it o _ s may (λ of one. gives_it s _ _ (born_bears s s of _ _ one (bears_same P s s refl))))
+      one_bears s _ args (λ a. of_it o _ s may (λ of one. gives_it s _ _
+      (born_bears s s of _ _ one (bears_same P s s refl))))
   shipped_bears prim.Unbox o s args may =
       untyped_bears s o _ (one_bears s (ships.unbox_call s) args (λ a. unbox_bears s a))
   shipped_bears prim.BoxGet o s args may =
@@ -305,7 +307,8 @@ module _ (P : ClosedType → Type 0) where
       untyped_bears s o _ (one_bears s _ args (λ a.
       use_bears s a _ (λ borrow place held. given_bears s _ _ (λ id. gives_it s _ _ (same_used s borrow)))))
   shipped_bears prim.MakeEmpty o s args may =
-      none_bears s _ args (of_it o _ s may (λ of one. gives_it s _ _ (born_bears s s of _ _ one (bears_same P s s refl))))
+      none_bears s _ args (of_it o _ s may (λ of one. gives_it s _ _
+      (born_bears s s of _ _ one (bears_same P s s refl))))
   shipped_bears prim.DestroyEmpty o s args may =
       untyped_bears s o _ (one_bears s (ships.destroy_empty s) args (λ a. destroy_bears s a))
   shipped_bears prim.Length o s args may =
@@ -328,7 +331,8 @@ module _ (P : ClosedType → Type 0) where
   shipped_bears prim.WriteByte o s args may =
       untyped_bears s o _ (two_bears s (ships.write_byte s) args (λ a b. write_bears s a b))
   shipped_bears prim.ReleaseTerminal o s args may =
-      untyped_bears s o _ (one_bears s _ args (λ a. given_bears s _ _ (λ id. gives_it s _ _ (bears_spends P (Some id) s))))
+      untyped_bears s o _ (one_bears s _ args (λ a. given_bears s _ _
+      (λ id. gives_it s _ _ (bears_spends P (Some id) s))))
 
   -- ---- shipped calls as actions
 

@@ -39,7 +39,8 @@ found_pair name [] v e = absurd (none-some v e)
 found_pair {V} name (p ∷ ps) v e = by (bytes_eq name p.0) e (found_pair name ps v)
   where
     by : (b : Bool) → cond b (Some p.1) (tables.find name ps) ≡ Some v
-        → (tables.find name ps ≡ Some v → (other : Bytes) × Among (other, v) ps) → (other : Bytes) × Among (other, v) (p ∷ ps)
+        → (tables.find name ps ≡ Some v → (other : Bytes) × Among (other, v) ps) → (other : Bytes) × Among (other, v)
+        (p ∷ ps)
     by true e later = (p.0, inl (ap (λ (x : V). (p.0, x)) (same_Some p.1 v e)))
     by false e later = let its = later e in (its.0, inr its.1)
 
@@ -121,7 +122,8 @@ module _ (program : List ModuleParts) where
         → ((d : ℕ × PlainDeclaration) → Among d ds → Among d (declarations_of m))
         → Among (other, t) (targets place (names_in Callables ds)) → IsDeclaredAs t
     of_names ds within m_t =
-        let its = among_map (λ (p : Bytes × ℕ). (p.0, target_here place p.0 p.1)) (other, t) (names_in Callables ds) m_t in
+        let its = among_map (λ (p : Bytes × ℕ). (p.0, target_here place p.0 p.1)) (other, t) (names_in Callables ds)
+        m_t in
         let from = names_among ds its.0 its.1 in
         declared_as place m is from.0 (within from.0 from.1) t its.0.0
         (ap (λ (p : Bytes × Target). p.1) its.2 ∙ ap (target_here place its.0.0) from.2) from.3
@@ -150,7 +152,8 @@ module _ (program : List ModuleParts) where
         → Among (other, t) (members_of place o) → IsDeclaredAs t
     of_members other t None within there = absurd there
     of_members other t (Some d) within there =
-        let its = among_map (λ (p : Bytes × ℕ). (p.0, target_here place p.0 p.1)) (other, t) (given d.0 (members d.1)) there in
+        let its = among_map (λ (p : Bytes × ℕ). (p.0, target_here place p.0 p.1)) (other, t)
+        (given d.0 (members d.1)) there in
         let from = among_map (λ (name : Bytes). (name, d.0)) its.0 (members d.1) its.1 in
         declared_as place m is d (within d refl) t from.0
         (ap (λ (p : Bytes × Target). p.1) its.2
@@ -206,7 +209,8 @@ module _ (program : List ModuleParts) where
   of_pervasive : (other : Bytes) (t : Target) → Among (other, t) (pervasive Callables program) → IsDeclaredAs t
   of_pervasive other t m = by (slice_get program 0) refl m
     where
-      by : (o : Option ModuleParts) → slice_get program 0 ≡ o → Among (other, t) (offered Callables 0 o) → IsDeclaredAs t
+      by : (o : Option ModuleParts) → slice_get program 0 ≡ o → Among (other, t) (offered Callables 0 o)
+          → IsDeclaredAs t
       by None is m = absurd m
       by (Some x) is m = of_exported 0 x is other t m
 
@@ -229,7 +233,8 @@ module _ (program : List ModuleParts) where
           first other (inr behind) = of_imported place (imports_in (part_of part m)) other t behind
 
           from : (other : Bytes)
-              → Among (other, t) (own Callables place m ++ imported Callables program place (imports_in (part_of part m)))
+              → Among (other, t) (own Callables place m ++ imported Callables program place
+              (imports_in (part_of part m)))
               ⊎ Among (other, t) (pervasive Callables program) → IsDeclaredAs t
           from other (inl here) =
               first other (among-append (own Callables place m)
@@ -264,4 +269,5 @@ module _ (program : List ModuleParts) where
   function_named place part name t e d found is =
       let its = target_declared place part name t e in
       only_name d.says t.name is
-      (subst (λ (x : Standing). Among t.name (callable_names x.says)) (same_Some its.d d (sym its.found ∙ found)) its.named)
+      (subst (λ (x : Standing). Among t.name (callable_names x.says)) (same_Some its.d d (sym its.found ∙ found))
+      its.named)

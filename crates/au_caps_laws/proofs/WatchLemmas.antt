@@ -1,6 +1,5 @@
 -- Calls are safe under a watch that lets pass what is of the types of parameters and results.
-use Rattle.std.proofs.Common.{◌≡◌, ℕ, zero, suc, Bool, true, List, [], ◌∷◌, Option, None, Some, length, refl, sym}
-use Rattle.std.proofs.Common.{subst}
+use Rattle.std.proofs.Common.{◌≡◌, ℕ, zero, suc, Bool, true, List, [], ◌∷◌, Option, None, Some, length, refl, sym, subst}
 use Rattle.au_effects.specs.Values.{root}
 use Rattle.au_type_texts.specs.Types.{ClosedType}
 use Rattle.au_types.specs.Types.{Meaning}
@@ -112,8 +111,8 @@ module _ (types : Types) (owner : ClosedType → Option (List ℕ)) {K W : Type 
     abbrev Gave : Meaning → Value → World → Type 0
     Gave t v n = IsIn types owner [] [] [] ((v, t) ∷ []) n × (lying_in n ≡ [])
 
-    seen_well : (t : Meaning) → IsExitOf types t → (ticks : ℕ) (out : Out Value)
-        → GoodHeld types owner permits [] (Gave t) out
+    seen_well : (t : Meaning) → IsExitOf types t → (ticks : ℕ) (out : Out Value) → GoodHeld types owner permits []
+        (Gave t) out
         → IsSeenWell owner (seen ticks out)
     seen_well t exits ticks (gives v n left) good =
         let told = laws.steps.actions.told [] [] [] ((v, t) ∷ []) n good.0 in
@@ -141,14 +140,16 @@ module _ (types : Types) (owner : ClosedType → Option (List ℕ)) {K W : Type 
           (begun ps (watched_at watch functions (suc depth) None (known.of key)) (first_world input) ticks)
       begun_good [] [] takes same input ticks =
           enters_safe depth (calls_safe depth) None key (begins key) [] [] [] [] [] [] (first_world input) ticks
-          (none_active (is_active [])) tt refl same (laws.starts types owner input)
+          (none_active (is_active [])) tt refl same
+          (laws.starts types owner input)
       begun_good [] (p ∷ ps) takes same input ticks = absurd takes
       begun_good (t ∷ []) [] takes same input ticks = absurd takes
       begun_good (t ∷ []) (p ∷ []) takes same input ticks =
           good_does owner _ (Gave (known.result key)) (root_born p.of)
           (watched_at watch functions (suc depth) None (known.of key) (root 0 ∷ [])) (first_world input) ticks
           (enters_safe depth (calls_safe depth) None key (begins key) [] [] [] [] ((root 0, t) ∷ []) []
-          (root_born p.of (first_world input)) ticks (none_active (is_active [])) tt refl same
+          (root_born p.of (first_world input)) ticks
+          (none_active (is_active [])) tt refl same
           (laws.rooted [] [] [] [] (first_world input) t p.of takes.0 takes.1 (laws.starts types owner input)))
       begun_good (t ∷ []) (p ∷ r ∷ ps) takes same input ticks = absurd takes
       begun_good (t ∷ u ∷ ts) ps takes same input ticks = absurd takes

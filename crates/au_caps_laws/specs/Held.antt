@@ -49,8 +49,8 @@ module _ (program : List ModuleParts) (noted : List NotedParts) where
 
   -- In each run from a way in which an entry is called, whatever the input, however many ticks there are, and
   -- whichever numbers the first names of functions have, names hold what is permitted so wherever the run is
-  -- cut off: each frame is of a function that was called in some way, the oldest one in that of the entry, and
-  -- each of its names that holds something is of a type that is listed there.
+  -- cut off: each frame is of a function that was called in some way, the oldest one in that of the entry,
+  -- and each of its names that holds something is of a type that is listed there.
   abbrev pub RunsAreListed : Type 0
   RunsAreListed =
       (first : Instance → ℕ) (key : Key program noted)

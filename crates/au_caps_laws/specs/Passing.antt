@@ -69,15 +69,15 @@ module _ (program : List ModuleParts) (noted : List NotedParts) where
   -- The precondition of calls: a function or method is called in one of its ways, what is passed to it is of
   -- the types of its parameters there, and these reach only what it holds, by the report's list, or what is
   -- given for its type parameters reaches; and what makes the call hands them on.
-  pub record IsPassedWell (caller : Option Instance) (one : Instance) (args : List Value)
-      (w : World) : Type 0 where
-    pub key : Key program noted
-    pub called : key.one ≡ one
-    pub typed : AreOf program args ((ways program noted).parameters key) w
-    pub body : Bodied
-    pub runs : IsRunFor program noted one.of body
-    pub listed : AreBoundedBy program one.given (Holds program body) ((ways program noted).parameters key)
-    pub handed : AreHandedBy caller ((ways program noted).parameters key)
+  pub record IsPassedWell (caller : Option Instance) (one : Instance) (args : List Value) (w : World) : Type 0
+    where
+      pub key : Key program noted
+      pub called : key.one ≡ one
+      pub typed : AreOf program args ((ways program noted).parameters key) w
+      pub body : Bodied
+      pub runs : IsRunFor program noted one.of body
+      pub listed : AreBoundedBy program one.given (Holds program body) ((ways program noted).parameters key)
+      pub handed : AreHandedBy caller ((ways program noted).parameters key)
 
   -- The postcondition: what it returns is of the type of its result in one of its ways, and this reaches only
   -- what it hands on, by the report's list, or what is given for its type parameters reaches.

@@ -7,8 +7,8 @@ use Rattle.au_meaning.specs.Views.{Function}
 use Rattle.au_meaning.specs.Worlds.{Outcome, Value, World}
 
 -- A watch of calls: a test of what is passed (a precondition), by the function that makes the call, unless
--- the run begins with it, the function that is called, the arguments and the world in which it is called; and
--- a test of what is returned (a postcondition), by the function, the value and the world then.
+-- the run begins with it, the function that is called, the arguments and the world in which it is called;
+-- and a test of what is returned (a postcondition), by the function, the value and the world then.
 pub record Watch (I : Type 0) : Type 0 where
   pub passed : Option I → I → List Value → World → Bool
   pub returned : I → Value → World → Bool

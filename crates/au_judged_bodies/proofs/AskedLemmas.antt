@@ -1,6 +1,6 @@
 -- The statements of a good body are as they are asked besides the rules of typing, by induction on them.
 use Rattle.std.proofs.Common.{◌≡◌, ◌⊎◌, inl, inr, ℕ, suc, ◌+◌, Bool, true, false, List, [], ◌∷◌, ◌++◌, length, map}
-use Rattle.std.proofs.Common.{Some, Ok, Err, refl, sym, ap, subst, ◌∙◌, arith, if◌then◌else◌}
+use Rattle.std.proofs.Common.{Option, Some, Ok, Err, refl, sym, ap, subst, ◌∙◌, arith, if◌then◌else◌}
 use Rattle.std.proofs.lemmas.List.{length-map}
 use Rattle.au_judged_types.specs.Bounds.{Bounded}
 use Rattle.au_judged_types.specs.Reasons.{Outcome, means, fails}
@@ -58,8 +58,7 @@ use Rattle.au_judged_bodies.proofs.CoverLemmas.{right_of, with_each, with_lent, 
 use Rattle.au_judged_bodies.specs.Kept as kept
 use Rattle.au_judged_bodies.specs.Lived.{loose_by, may_drop}
 use Rattle.au_judged_bodies.specs.Parts.{Each, EachArm, EachIn, EachTest}
-use Rattle.au_judged_bodies.proofs.MarkLemmas.{inner_new, left_new, neutral, neutral_all, neutral_binds}
-use Rattle.au_judged_bodies.proofs.MarkLemmas.{neutral_enclosed}
+use Rattle.au_judged_bodies.proofs.MarkLemmas.{inner_new, left_new, neutral, neutral_all, neutral_binds, neutral_enclosed}
 use Rattle.au_judged_bodies.proofs.MarkLemmas.{neutral_join, neutral_stays, neutral_tests, right_new, Stays}
 use Rattle.au_judged_bodies.proofs.NumberLemmas.{AreSorted, many, many_bound, many_inside, many_tests, moved}
 use Rattle.au_judged_bodies.proofs.NumberLemmas.{plain, plus_zero, sorted}
@@ -232,18 +231,18 @@ module _ (foreign : Kind → Bytes → Bool) {I : Type 0} (see : View I Note (Un
         → AreOpen before (types_of sc)
         → AreSorted sorts number (variables_after (plain_statement (λ (b : Bytes). b) s) rest (types_of sc))
         → AreSorted sorts number (variables_inside (plain_statement (λ (b : Bytes). b) s) (types_of sc))
-        → Each see K U number scope s → MayHandEach may_hand (arguments_by s)
-        → Besides see (loose_by sorts) may_hold may_hand number sc scope s
+        → Each see K U number scope s → MayHandEach may_hand (arguments_by s) → Besides see (loose_by sorts) may_hold
+        may_hand number sc scope s
     go number scope (skip at) rest sc before held new open1 own asked each hands = tt
     go number scope (declare at binding x t e) rest sc before held new open1 own asked each hands =
         (keeps see may_hand scope e each hands, drops number sc (t ∷ []) held t (inl refl) own.0)
     go number scope (destructure at binds e) rest sc before held new open1 own asked each hands = (
       keeps see may_hand scope e each hands,
-      each_drops number sc (types_bound
-          binds) held rest binds (λ w there. there) own,
+      each_drops number sc (types_bound binds) held rest binds
+          (λ w there. there) own,
     )
-    go number scope (assign at x fields e) rest sc before held new open1 own asked each hands = keeps see may_hand scope
-        e each hands
+    go number scope (assign at x fields e) rest sc before held new open1 own asked each hands = keeps see may_hand
+        scope e each hands
     go number scope (assign_through at x fields e) rest sc before held new open1 own asked each hands = keeps see
         may_hand scope e each hands
     go number scope (conditional at tests) rest sc before held new open1 own asked each hands =
@@ -306,16 +305,18 @@ module _ (foreign : Kind → Bytes → Bool) {I : Type 0} (see : View I Note (Un
           new_region foreign (base ++ mark ∷ []) (types_of sc) region.name region.at open2
               (left_new foreign (base ++ mark ∷ []) (place ∷ []) (marks_in block) others),
           λ of lends. (
-            lent_holds may_hold outside generics references sc (types_in_block block) held (mode_for
-                a) x.name region.name of lends,
+            lent_holds may_hold outside generics references sc (types_in_block block) held (mode_for a) x.name
+                region.name of lends,
             go_all (number + 1)
                 (meaning.with_reference (meaning.mode_of a) (meaning.variable_of scope x.name) number r.name scope)
-                block (with_reference r.name region.name (borrow_type (mode_for a) region.name of) sc)
+                block
+                (with_reference r.name region.name (borrow_type (mode_for a) region.name of) sc)
                 ((base ++ mark ∷ []) ++ place ∷ [])
                 (with_lent may_hold outside generics references sc (types_in_block block) r.name region.name
                 (borrow_type (mode_for a) region.name of)
                 (lent_holds may_hold outside generics references sc (types_in_block block) held (mode_for a) x.name
-                region.name of lends) held)
+                region.name of lends)
+                held)
                 (right_new foreign (base ++ mark ∷ []) (place ∷ []) (marks_in block) others)
                 (region_too (base ++ mark ∷ []) (types_of sc) region.name region.at open2) asked.1 each.1 hands,
           ),
@@ -340,8 +341,8 @@ module _ (foreign : Kind → Bytes → Bool) {I : Type 0} (see : View I Note (Un
               (with_lent may_hold outside generics references sc (types_in_block block) r.name region of may behind_it)
               inner.marks inner.open1 inner.asked each.1 hands,
         )
-    go number scope (discard at e) rest sc before held new open1 own asked each hands = keeps see may_hand scope e each
-        hands
+    go number scope (discard at e) rest sc before held new open1 own asked each hands = keeps see may_hand scope e
+        each hands
     go number scope (return_of at e) rest sc before held new open1 own asked each hands = keeps see may_hand scope e
         each hands
 
@@ -367,8 +368,9 @@ module _ (foreign : Kind → Bytes → Bool) {I : Type 0} (see : View I Note (Un
         (later before ms (types_of sc) (neutral_stays ms (neutral (plain_statement (λ (b : Bytes). b) s))) open1) in (
           go number scope s (plain rest) sc before
               (left_of may_hold outside generics references sc (types_written s) (types_in_block rest) held)
-              (left_new foreign before ms (marks_in rest) new) open1 first.0 (inside_at number s (plain rest)
-              (types_of sc) second.0) each.0 (hand_left may_hand (arguments_by s) (arguments_by_block rest) hands),
+              (left_new foreign before ms (marks_in rest) new) open1 first.0
+              (inside_at number s (plain rest) (types_of sc) second.0) each.0
+              (hand_left may_hand (arguments_by s) (arguments_by_block rest) hands),
           go_all (number + names_in s) (meant.after see number s scope) rest (after s sc) (before ++ ms)
               (behind may_hold outside generics references s sc (types_in_block rest) held)
               (right_new foreign before ms (marks_in rest) new) beyond.1 beyond.0 each.2
@@ -388,14 +390,14 @@ module _ (foreign : Kind → Bytes → Bool) {I : Type 0} (see : View I Note (Un
         let vs = variables_in (plain block) (types_of sc) in
         let ws = variables_in_branches (plain_branches (λ (b : Bytes). b) rest) (types_of sc) in
         let both = parts_sorted sorts number vs ws asked in
-        let here = hand_left may_hand (arguments_in e ++ arguments_by_block block) (arguments_by_branches rest)
-        hands in (
-          keeps see may_hand scope e each.0 (hand_left may_hand (arguments_in e) (arguments_by_block block) here),
+        let mine = hand_left may_hand (arguments_in e ++ arguments_by_block block) (arguments_by_branches rest) hands
+        in (
+          keeps see may_hand scope e each.0 (hand_left may_hand (arguments_in e) (arguments_by_block block) mine),
           go_all number scope block sc (before ++ Opens ∷ [])
               (left_of may_hold outside generics references sc (types_in_block block) (types_in_branches rest) held)
               (inner_new foreign before (marks_in block) (left_new foreign before ms others new))
               (later before (Opens ∷ []) (types_of sc) (λ n. tt) open1) both.0 each.1
-              (hand_right may_hand (arguments_in e) (arguments_by_block block) here),
+              (hand_right may_hand (arguments_in e) (arguments_by_block block) mine),
           go_tests (number + names_in_block block) scope rest sc (before ++ ms)
               (right_of may_hold outside generics references sc (types_in_block block) (types_in_branches rest) held)
               (right_new foreign before ms others new)
@@ -446,13 +448,15 @@ module _ (foreign : Kind → Bytes → Bool) {I : Type 0} (see : View I Note (Un
               go_all (number + length binds) (meaning.with_bound (fields_told see note tag) number binds scope) block
               (with_bound binds sc) (base ++ mine)
               (right_of may_hold outside generics references (with_bound binds sc) (types_bound binds)
-              (types_in_block block) (with_each may_hold outside generics references binds sc
-              (types_bound binds ++ types_in_block block) (among-append_left (types_bound binds) (types_in_block block))
-              here_held)) (right_new foreign base mine (marks_in block) inside) within.1
+              (types_in_block block)
+              (with_each may_hold outside generics references binds sc (types_bound binds ++ types_in_block block)
+              (among-append_left (types_bound binds) (types_in_block block)) here_held))
+              (right_new foreign base mine (marks_in block) inside) within.1
               within.0 (each.0 tag).1 (hand_left may_hand (arguments_by_block block) (arguments_by_arms rest) hands),
           go_arms (number + (length binds + names_in_block block)) scope note rest sc (before ++ enclosed ms)
               (right_of may_hold outside generics references sc (types_bound binds ++ types_in_block block)
-              (types_in_arms rest) held) (right_new foreign before (enclosed ms) left new)
+              (types_in_arms rest) held)
+              (right_new foreign before (enclosed ms) left new)
               (later before (enclosed ms) (types_of sc) (neutral_stays (enclosed ms) neutral_ms) open1)
               (moved sorts ((number + length own) + length vs) (number + (length binds + names_in_block block)) ws there
               second.1)
@@ -510,17 +514,20 @@ bodies_asked f may_hold may_hand outside generics header is declared covers =
     let body = block_marks (plain f.body) in
     let number = f.first + length f.parameters in
     let held = begun_fits may_hold outside (generics_in outside generics) covers.references header.parameters
-    header.result is.body.scope (types_in_block f.body)
+    header.result
+    is.body.scope (types_in_block f.body)
     (λ p there. covers.given p (contains header.parameters p there))
     (λ w there. covers.written w (contains (types_in_block f.body) w there)) is.body.formed in
     let begins = alike is.foreign f.view sorts may_hold may_hand outside (generics_in outside generics)
     covers.references number (plain f.body) is.body.scope (types_of outer) (is.before ++ given)
     (body_types (with_parameters header.parameters outer) header.result outer is.body.scope
     (λ mid formed. parameters_types header.parameters outer mid formed) is.body.formed)
-    (moved sorts (f.first + length vs) number ws (ap (λ (n : ℕ). f.first + n) count) both.1) (later is.before given
-    (types_of outer) (params_neutral header.parameters) (first_open is.before outside generics declared)) in
+    (moved sorts (f.first + length vs) number ws (ap (λ (n : ℕ). f.first + n) count) both.1)
+    (later is.before given (types_of outer) (params_neutral header.parameters)
+    (first_open is.before outside generics declared)) in
     go_all is.foreign f.view sorts may_hold may_hand outside (generics_in outside generics) covers.references number
-    (scope_of f) f.body is.body.scope (is.before ++ given) held
+    (scope_of f)
+    f.body is.body.scope (is.before ++ given) held
     (right_new is.foreign is.before given body is.new) begins.1 begins.0
     (bodies_ahead f outside generics header is).2
     (λ e there. covers.handed e (contains (arguments_by_block f.body) e there))

@@ -54,8 +54,8 @@ use Rattle.au_judged_bodies.proofs.TypedBlocksPlaceLemmas.{place_later, place_wi
 
 -- ---- lists of fields
 
-pub names_alike : (given : Given) (fields : List Typed) → field_names (map (field_closed given) fields)
-    ≡ names_of fields
+pub names_alike : (given : Given) (fields : List Typed) → field_names (map (field_closed given) fields) ≡ names_of
+    fields
 names_alike given [] = refl
 names_alike given (one ∷ rest) = ap (λ l. one.name ∷ l) (names_alike given rest)
 
@@ -144,7 +144,8 @@ module _ (types : Types) (owner : ClosedType → Option (List ℕ)) {I K : Type 
     (known : Callables I K) (may_hand : Meaning → Type 0) (given : Given) (Stands : Bindings → Type 0)
     (loose : ℕ → Bool) (result : Meaning)
     {V W : Type 0} (permits : Permits V W) (key : V) (counts : (kind : IntKind) → IsPermitted permits key
-    (integer kind)) (active : ℕ → Bool) where
+    (integer kind))
+    (active : ℕ → Bool) where
   abbrev Place : ℕ → Scope → meaning.Scope → Bindings → (ℕ → Meaning) → Type 0
   Place number sc scope s names =
       PlaceFits types owner see known may_hand given Stands result active number sc scope s names
@@ -163,13 +164,13 @@ module _ (types : Types) (owner : ClosedType → Option (List ℕ)) {I K : Type 
   scoped_region number sc scope s names p Anonymous is = inr (0, refl)
 
   pub drops : (number at : ℕ) (sc : Scope) (scope : meaning.Scope) (s : Bindings) (names : ℕ → Meaning)
-      → Place number sc scope s names → (t : Meaning) → IsKnownIn sc t
-      → IsFineIn see loose (MayHold permits key Stands) sc at t
+      → Place number sc scope s names → (t : Meaning) → IsKnownIn sc t → IsFineIn see loose
+      (MayHold permits key Stands) sc at t
       → IsFine types loose permits key at (running s 0 t)
   drops number at sc scope s names p t whole may = (λ is. by (may.0 is), may.1 s p.good)
     where
-      by : (is_free_in sc t ≡ true) ⊎ ((of : Meaning) × (region : Region) × (t ≡ writes of region))
-          → MayDrop types (running s 0 t)
+      by : (is_free_in sc t ≡ true) ⊎ ((of : Meaning) × (region : Region) × (t ≡ writes of region)) → MayDrop types
+          (running s 0 t)
       by (inl free) = inl (p.round.free s sc.regions 0 t p.good whole free)
       by (inr (of, region, same)) =
           inr (
@@ -177,8 +178,8 @@ module _ (types : Types) (owner : ClosedType → Option (List ℕ)) {I K : Type 
             region_running s 0 region,
             ap (running s 0) same,
             scoped_region number sc scope s names p region
-                (writes_parts sc.outside.heads (parameters_in sc) sc.regions of region (subst (IsKnownIn sc) same
-                whole)).1,
+                (writes_parts sc.outside.heads (parameters_in sc) sc.regions of region
+                (subst (IsKnownIn sc) same whole)).1,
           )
 
   pub drops_each : (number at : ℕ) (sc : Scope) (scope : meaning.Scope) (s : Bindings) (names : ℕ → Meaning)

@@ -44,7 +44,8 @@ given_own : (given : Given) (put : Bindings) (inner : List Parameter) (name : Li
     → given_for (given_by given put (type_names inner)) name ≡ closed_under given (substituted put (parameter name))
 given_own given put [] name universe e sort = absurd (none-some universe e)
 given_own given put (p ∷ ps) name universe e sort =
-    by (is_region p.universe) refl (bytes_eq p.name name) refl e (λ more. given_own given put ps name universe more sort)
+    by (is_region p.universe) refl (bytes_eq p.name name) refl e
+    (λ more. given_own given put ps name universe more sort)
   where
     later_of : Given
     later_of = given_by given put (type_names ps)

@@ -106,7 +106,8 @@ module _ (program : List ModuleParts) (d : Standing) (params : List Parameter) (
       subst (λ (y : Typed). is_lasting y.of ≡ true) from.2
       (meant_written [] params (types_at program d.place d.part) (heads_of program) one.of from.0 from.1).lasting
 
-  all_typed_last : (written : List (Labelled Bytes)) (kinds : List Typed) → all_typed program d params written ≡ Some kinds
+  all_typed_last : (written : List (Labelled Bytes)) (kinds : List Typed) → all_typed program d params written ≡ Some
+      kinds
       → (i : ℕ) (x : Typed) → slice_get (map (typed_under s) kinds) i ≡ Some x → is_lasting x.of ≡ true
   all_typed_last [] kinds e i x is =
       absurd (none-some x (ap (λ l. slice_get (map (typed_under s) l) i) (same_Some [] kinds e) ∙ is))
@@ -126,7 +127,8 @@ module _ (program : List ModuleParts) (d : Standing) (params : List Parameter) (
       on (y, others, first, its, whole) (suc n) is later =
           later others its n (ap (λ l. slice_get (map (typed_under s) l) (suc n)) whole ∙ is)
 
-record_last : (program : List ModuleParts) (d : Standing) (args : Arguments) (says : PlainDeclaration) (fields : List Typed)
+record_last : (program : List ModuleParts) (d : Standing) (args : Arguments) (says : PlainDeclaration)
+    (fields : List Typed)
     → record_fields program d args says ≡ Some fields → are_lasting args ≡ true → (i : ℕ) (one : Typed)
     → slice_get fields i ≡ Some one → is_lasting one.of ≡ true
 record_last program d args (record_type at name params universe written) fields e last i one is =

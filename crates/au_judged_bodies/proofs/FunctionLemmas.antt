@@ -90,14 +90,17 @@ pub key_seen : (types : Types) (owner : ClosedType → Option (List ℕ)) (progr
     → EachRuns program key.body key.s s z put key.body.header.parameters called.parameters
     → written_running program key.body key.s key.body.header.result ≡ running s z note.of → AreActive active key.tokens
     → AreApart (names_of called.parameters)
-    → CallIsSeen types owner (view_under program trees place params given) (ways program trees) active s z note name called
+    → CallIsSeen types owner (view_under program trees place params given) (ways program trees) active s z note name
+    called
     put
-key_seen types owner program trees place params given s z active note name called put key leads each gives tokens apart =
+key_seen types owner program trees place params given s z active note name called put key leads each gives tokens
+    apart =
     record {
       one = record { parameters = names_of called.parameters; act = invokes key.one };
       seen = λ c.
           ap (lead_does program trees place (closed_under given note.of)) leads
-          ∙ ap (λ o. with_names (option_map (λ (b : BodyOf). field_names (parameters_under program trees key.one.given b)) o)
+          ∙ ap (λ o. with_names (option_map (λ (b : BodyOf). field_names
+          (parameters_under program trees key.one.given b)) o)
           (invokes key.one)) key.there
           ∙ ap (λ l. with_names (Some l) (invokes key.one))
           (labels_seen program key.body key.s s z put key.one.given key.body.header.parameters called.parameters each);
@@ -117,7 +120,8 @@ key_seen types owner program trees place params given s z active note name calle
 module _ (program : List ModuleParts) (body : BodyOf) (s : Bindings) (z : ℕ) (put : Bindings) (inner : List Parameter)
     (fixes : (t : Meaning) → IsWritten [] inner t → Fixes put t) where
   -- the running type of what is written is that of the caller
-  pub type_taken : (t : Meaning) → IsWritten [] inner t → running (called_at s z put) 0 t ≡ running s z (substituted put t)
+  pub type_taken : (t : Meaning) → IsWritten [] inner t → running (called_at s z put) 0 t ≡ running s z
+      (substituted put t)
   type_taken t is = type_called s put (called_at s z put) z 0 (callees_run s put z) t is.lasting (fixes t is)
 
   kinds_so : (ws : List (Labelled Bytes)) (ps : List Typed) → EachMeans program body ws ps
@@ -137,7 +141,8 @@ module _ (types : Types) (owner : ClosedType → Option (List ℕ)) (program : L
     (active : ℕ → Bool) (runs : BodyRuns program params regions given s z active) where
   -- ---- the way in which a body is called
 
-  module _ (at : Target) (body : BodyOf) (called : Callable) (put : Bindings) (there : body_of program trees at ≡ Some body)
+  module _ (at : Target) (body : BodyOf) (called : Callable) (put : Bindings)
+      (there : body_of program trees at ≡ Some body)
       (is : IsBodyOf program body called)
       (puts : IsPut (heads_of program) params regions (parameters called.generics) put)
       (holds : ConstraintsHold program called.generics (called_at s z put)) where
@@ -148,10 +153,12 @@ module _ (types : Types) (owner : ClosedType → Option (List ℕ)) (program : L
     its = called_at s z put
 
     pub stand : RegionsStand active inner its
-    stand = regions_stand (heads_of program) params regions given s z inner put runs.stands puts active runs.here runs.opened
+    stand = regions_stand (heads_of program) params regions given s z inner put runs.stands puts active runs.here
+        runs.opened
 
     pub usable : TypesAreUsable active inner its
-    usable = types_usable (heads_of program) params regions given s z inner put runs.stands puts active runs.here runs.opened
+    usable = types_usable (heads_of program) params regions given s z inner put runs.stands puts active runs.here
+        runs.opened
         runs.within
 
     abbrev key : Key program trees
@@ -176,7 +183,8 @@ module _ (types : Types) (owner : ClosedType → Option (List ℕ)) (program : L
       (leading : called_of target.name d.says ≡ Some (a_function declared (type_names (parameters called.generics))))
       (unshipped : prim_of (module_name program target.at.«module») declared None ≡ None)
       (there : body_of program trees target ≡ Some body) (is : IsBodyOf program body called)
-      (well : IsDeclaredWell program called) (notes : note.call ≡ Some put) (of : note.of ≡ substituted put called.result)
+      (well : IsDeclaredWell program called) (notes : note.call ≡ Some put)
+      (of : note.of ≡ substituted put called.result)
       (puts : IsPut (heads_of program) params regions (parameters called.generics) put)
       (holds : ConstraintsHold program called.generics (called_at s z put)) where
     abbrev one : Instance
@@ -196,7 +204,8 @@ module _ (types : Types) (owner : ClosedType → Option (List ℕ)) (program : L
           given = given_by given (unwrap_or o []) (type_names (parameters called.generics));
         }))) notes
 
-    pub function_seen : CallIsSeen types owner (view_under program trees place params given) (ways program trees) active s
+    pub function_seen : CallIsSeen types owner (view_under program trees place params given) (ways program trees)
+        active s
         z note name called put
     function_seen =
         key_seen types owner program trees place params given s z active note name called put

@@ -55,7 +55,8 @@ abbrev mutual
 -- those of what stands for a name
 abbrev pub value_tokens : (ℕ → Bool) → Bindings → List ℕ → List ℕ → List ℕ
 value_tokens active s name rest =
-    kept active (token_of (region_for (value_of name s) name)) (type_tokens active (type_for (value_of name s) name) rest)
+    kept active (token_of (region_for (value_of name s) name))
+    (type_tokens active (type_for (value_of name s) name) rest)
 
 abbrev pub tokens_in : (ℕ → Bool) → Bindings → List Parameter → List ℕ
 tokens_in active s [] = []
@@ -173,7 +174,8 @@ module _ (active : ℕ → Bool) (s : Bindings) where
         → AreActive other rest
     value_rest name rest are =
         type_rest (type_for (value_of name s) name) rest
-        (rest_kept (token_of (region_for (value_of name s) name)) (type_tokens active (type_for (value_of name s) name) rest)
+        (rest_kept (token_of (region_for (value_of name s) name))
+        (type_tokens active (type_for (value_of name s) name) rest)
         are)
 
     token_there : (ps : List Parameter) (name : List ℕ) (z : ℕ) → universe_in ps name ≡ Some universes.Region

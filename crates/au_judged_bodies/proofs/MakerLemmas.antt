@@ -174,8 +174,12 @@ module _ (put : Bindings) where
             ∙ same_Some (argument_substituted put (as_argument p)) value e,
       )
       by false found e later =
-          let its = later e in
-          (its.0, ap (λ b. cond b (Some p.universe) (universe_in ps name)) (other (bytes_eq p.name name) refl) ∙ its.1, its.2)
+          let its = later e in (
+            its.0,
+            ap (λ b. cond b (Some p.universe) (universe_in ps name)) (other (bytes_eq p.name name) refl) ∙
+                its.1,
+            its.2,
+          )
         where
           other : (c : Bool) → bytes_eq p.name name ≡ c → bytes_eq p.name name ≡ false
           other true is =
@@ -371,7 +375,8 @@ module _ (program : List ModuleParts) (trees : List NotedParts) (fit : Definitio
           ap (lead_does program trees place (closed_under given note.of)) leads
           ∙ ap (λ t. with_names (option_map field_names (meaning.fields_in program (closed_under given t) maker.tag))
           (makes (closed_under given note.of) maker.tag (module_name program place))) type_is
-          ∙ ap (λ o. with_names o (makes (closed_under given note.of) maker.tag (module_name program place))) names_found
+          ∙ ap (λ o. with_names o (makes (closed_under given note.of) maker.tag (module_name program place)))
+          names_found
 
       -- ---- what is born
 
@@ -393,7 +398,8 @@ module _ (program : List ModuleParts) (trees : List NotedParts) (fit : Definitio
           by None is e = absurd (none-some own_home e)
           by (Some st) is e = opaque st is (opaque_name st.says) refl e
 
-      universe_is : universe_of (heads_of program) [] (running s z (named at args)) ≡ closed_universe (heads_of program) c
+      universe_is : universe_of (heads_of program) [] (running s z (named at args)) ≡ closed_universe
+          (heads_of program) c
       universe_is = universe_closed (heads_of program) [] (running s z (named at args)) c closes
 
       decided : (universe_of (heads_of program) [] (running s z (named at args)) ≡ Free)
@@ -416,7 +422,8 @@ module _ (program : List ModuleParts) (trees : List NotedParts) (fit : Definitio
           by (inl free) = subst Born (sym (ap is_linear (sym universe_is ∙ free))) (ap is_free free)
           by (inr linear) = subst Born (sym (ap is_linear (sym universe_is ∙ linear))) (ap is_free linear, home)
 
-      pub maker_seen : CallIsSeen (types_of program) (owner_of program) (view_under program trees place params given) known
+      pub maker_seen : CallIsSeen (types_of program) (owner_of program) (view_under program trees place params given)
+          known
           active s z note name called put
       maker_seen = record {
         one = seen_so;
@@ -424,9 +431,11 @@ module _ (program : List ModuleParts) (trees : List NotedParts) (fit : Definitio
         parameters = refl;
         apart = subst AreApart (sym labels_are) (maker.apart (each_apart at d defined));
         performs = (
-          ap (λ t. fields_in program (running s z t) maker.tag) type_is ∙ runs ∙ ap (λ (l : List Meaning). Some l) kinds,
+          ap (λ t. fields_in program (running s z t) maker.tag) type_is ∙ runs ∙ ap (λ (l : List Meaning). Some l)
+              kinds,
           subst (λ t. Bears (types_of program) (owner_of program) (view_under program trees place params given) known
               (closed_under given t) (module_name program place)
-              (is_linear (closed_universe (heads_of program) (closed_under given t))) (running s z t)) (sym type_is) bears,
+              (is_linear (closed_universe (heads_of program) (closed_under given t))) (running s z t)) (sym type_is)
+              bears,
         );
       }

@@ -180,8 +180,8 @@ module _ (types : Types) (owner : ClosedType → Option (List ℕ)) {I K : Type 
   abbrev pub AllRun : NotedStatements → Type 0
   AllRun block =
       (active : ℕ → Bool) (number : ℕ) (sc : Scope) (scope : meaning.Scope) (s : Bindings) (names : ℕ → Meaning)
-      → Place active number sc scope s names → GoodBlock block sc
-      → BesidesAll see loose (MayHold permits key Stands) may_hand number sc scope block
+      → Place active number sc scope s names → GoodBlock block sc → BesidesAll see loose (MayHold permits key Stands)
+      may_hand number sc scope block
       → RunsAll types owner see known result loose permits key active number scope block names
 
   module _ (active : ℕ → Bool) (number : ℕ) (sc : Scope) (scope : meaning.Scope) (s : Bindings) (names : ℕ → Meaning)
@@ -190,8 +190,8 @@ module _ (types : Types) (owner : ClosedType → Option (List ℕ)) {I K : Type 
     Whole e t = IsWholeOf types owner see known result loose permits key active names scope e t
 
     pub later_on : (later : ℕ) → number ≤ later → Place active later sc scope s names
-    later_on later less = place_later types owner see known may_hand given Stands result active number later sc scope s
-        names less p
+    later_on later less = place_later types owner see known may_hand given Stands result active number later sc scope
+        s names less p
 
     pub wanted : (mode : Mode) (t : Meaning) → mode ≡ Some t → IsKnownIn sc t → ModeIsKnownIn sc mode
     wanted mode t is whole = subst (ModeIsKnownIn sc) (sym is) whole
@@ -203,8 +203,9 @@ module _ (types : Types) (owner : ClosedType → Option (List ℕ)) {I K : Type 
     pub wants_whole : (e : NotedExpression) (t : Meaning) → Wants sc e (Some t) → IsKnownIn sc t → is_lasting t ≡ true
         → Keeps see may_hand scope e → Whole e (running s 0 t)
     wants_whole e t good whole lasts keeps =
-        whole_of types owner see known may_hand given Stands result active number sc scope s names p loose permits key e
-        t good.0 (wanted (mode_of e) t good.1 whole) keeps (had sc e t good.0 good.1) lasts
+        whole_of types owner see known may_hand given Stands result active number sc scope s names p loose permits
+        key e t good.0
+        (wanted (mode_of e) t good.1 whole) keeps (had sc e t good.0 good.1) lasts
 
     pub of_each : (e : NotedExpression) → AllGood sc e → ModeIsKnownIn sc (mode_of e) → Keeps see may_hand scope e
         → (z : ℕ)
@@ -272,7 +273,8 @@ module _ (types : Types) (owner : ClosedType → Option (List ℕ)) {I K : Type 
 
         leads : (numbers : List ℕ)
             × (meaning.path_numbers (λ of. see.fields of 0) (Some (closed_under given v.of)) (names_of path) ≡ Some
-            numbers) × LeadsOn types (running s 0 v.of) numbers (running s 0 part)
+            numbers)
+            × LeadsOn types (running s 0 v.of) numbers (running s 0 part)
         leads = part_at path v.of part whole is
 
     pub puts : (r : Bytes) (path : List (Placed Bytes)) (v : Variable) (to part : Meaning) (region : Region)
@@ -308,7 +310,8 @@ module _ (types : Types) (owner : ClosedType → Option (List ℕ)) {I K : Type 
 
         leads : (numbers : List ℕ)
             × (meaning.path_numbers (λ of. see.fields of 0) (Some (closed_under given to)) (names_of path) ≡ Some
-            numbers) × LeadsOn types (running s 0 to) numbers (running s 0 part)
+            numbers)
+            × LeadsOn types (running s 0 to) numbers (running s 0 part)
         leads = part_at path to part parts.0 is
 
     pub put_known : (r : Bytes) (path : List (Placed Bytes)) (e : NotedExpression) → (good : GoodPut sc r path e)
@@ -322,8 +325,8 @@ module _ (types : Types) (owner : ClosedType → Option (List ℕ)) {I K : Type 
 
     -- ---- bounds of loops
 
-    pub bounds_modes : (first second : Bool) (a b : NotedExpression)
-        → PairedModes first second None (note_of a) (note_of b)
+    pub bounds_modes : (first second : Bool) (a b : NotedExpression) → PairedModes first second None (note_of a)
+        (note_of b)
         → AllGood sc a → AllGood sc b → ModeIsKnownIn sc (mode_of a) × ModeIsKnownIn sc (mode_of b)
     bounds_modes true true a b is ga gb = (unwanted (mode_of a) is.0, unwanted (mode_of b) is.1)
     bounds_modes false false a b is ga gb = (unwanted (mode_of a) is.0, unwanted (mode_of b) is.1)
@@ -337,8 +340,9 @@ module _ (types : Types) (owner : ClosedType → Option (List ℕ)) {I K : Type 
     pub bound_whole : (e : NotedExpression) (kind : IntKind) → AllGood sc e → ModeIsKnownIn sc (mode_of e)
         → Keeps see may_hand scope e → type_of e ≡ integer kind → Whole e (integer kind)
     bound_whole e kind good mode keeps is =
-        whole_of types owner see known may_hand given Stands result active number sc scope s names p loose permits key e
-        (integer kind) good mode keeps is refl
+        whole_of types owner see known may_hand given Stands result active number sc scope s names p loose permits
+        key e (integer kind) good mode
+        keeps is refl
 
     pub counter_fine : (kind : IntKind) → IsFine types loose permits key number (integer kind)
     counter_fine kind = (
@@ -461,22 +465,16 @@ module _ (types : Types) (owner : ClosedType → Option (List ℕ)) {I K : Type 
           running more 0 of,
           region_running more 0 (Named region),
           refl,
-          inr (
-            z,
-            ap (λ o. region_for o
-                region) value,
-          ),
+          inr
+              (z, ap (λ o. region_for o region) value),
         )
     borrow_drops mode.Reborrow region of z more value =
         inr (
           running more 0 of,
           region_running more 0 (Named region),
           refl,
-          inr (
-            z,
-            ap (λ o. region_for o
-                region) value,
-          ),
+          inr
+              (z, ap (λ o. region_for o region) value),
         )
 
     pub lent_runs : (m : BorrowMode) (x r region : Bytes) (of : Meaning) (block : NotedStatements) → IsLent sc m x of

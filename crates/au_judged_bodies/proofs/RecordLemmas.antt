@@ -61,7 +61,8 @@ module _ (program : List ModuleParts) where
   record_defined : (d : Standing) (args : Arguments) (says : PlainDeclaration) → d.says ≡ says → (fields : List Typed)
       → record_fields program d args says ≡ Some fields
       → (case_fields program args 0 d ≡ Some (field_types fields))
-      × ((others : Arguments) (tag : ℕ) (other : List Meaning) → case_fields program others tag d ≡ Some other → tag ≡ 0)
+      × ((others : Arguments) (tag : ℕ) (other : List Meaning) → case_fields program others tag d ≡ Some other → tag
+      ≡ 0)
   record_defined d args (record_type at name params universe written) is fields e = (
     ap (λ x. fields_said d x args 0) is ∙ ap (option_map field_types) e,
     λ others tag other f. one_case tag other others (sym (ap (λ x. fields_said d x others tag) is) ∙ f),
@@ -148,7 +149,8 @@ module _ (program : List ModuleParts) where
             let same : x ≡ one = same_Some x one (ap (λ l. slice_get l 0) whole ∙ is) in
             ap (option_map field_types) from.1
             ∙ ap (λ (c : Case). Some (field_types c.fields)) (from.2 ∙ same)
-        on (x, others, first, its, whole) (suc n) is later = later others its n (ap (λ l. slice_get l (suc n)) whole ∙ is)
+        on (x, others, first, its, whole) (suc n) is later = later others its n
+            (ap (λ l. slice_get l (suc n)) whole ∙ is)
 
   union_defined : (d : Standing) (args : Arguments) (says : PlainDeclaration) → d.says ≡ says → (all : List Case)
       → union_cases program d args says ≡ Some all → (tag : ℕ) (one : Case) → slice_get all tag ≡ Some one

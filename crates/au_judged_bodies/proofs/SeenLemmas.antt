@@ -87,7 +87,8 @@ pub under_names : (program : List ModuleParts) (d : Standing) (params : List Par
     (written : List (Labelled Bytes)) (fields : List Typed)
     → fields_under program d params args written ≡ Some fields → names_known fields ≡ labels written
 under_names program d params args written fields e =
-    let from = map_some (map (typed_under (with_arguments params args))) (all_typed program d params written) fields e in
+    let from = map_some (map (typed_under (with_arguments params args))) (all_typed program d params written) fields
+    e in
     ap names_known (sym from.2) ∙ known_names program d params (with_arguments params args) written from.0 from.1
 
 module _ (names : List (Bytes × DeclAt)) (heads : List (DeclAt × Head)) (args : List ClosedType) where

@@ -42,7 +42,8 @@ free_is Free e = refl
 free_is Linear e = absurd (true≢false (sym e))
 free_is AnyUniverse e = absurd (true≢false (sym e))
 
-pub free_runs : (program : List ModuleParts) (params : List Parameter) (regions : List Bytes) (given : Given) (s : Bindings)
+pub free_runs : (program : List ModuleParts) (params : List Parameter) (regions : List Bytes) (given : Given)
+    (s : Bindings)
     (z : ℕ) (t : Meaning) → StandsFor (heads_of program) params given s → IsKnown (heads_of program) params regions t
     → is_free (universe_of (heads_of program) params t) ≡ true → (types_of program).is_free (running s z t) ≡ true
 free_runs program params regions given s z t stands known free =
@@ -72,7 +73,8 @@ module _ (region : Bytes) (value : Argument) (s : Bindings) where
       by true is = absurd (other ((bytes_eq-Decides name region).0 is))
       by false is = sym (value_of-with name region value s ∙ ap (λ b. cond b (Some value) (value_of name s)) is)
 
-pub region_opens : (heads : List (DeclAt × Head)) (params : List Parameter) (given : Given) (s : Bindings) (region : Bytes)
+pub region_opens : (heads : List (DeclAt × Head)) (params : List Parameter) (given : Given) (s : Bindings)
+    (region : Bytes)
     (z : ℕ) → StandsFor heads params given s → universe_in params region ≡ None
     → StandsFor heads params given (with_pair region (in_region (token z)) s)
 region_opens heads params given s region z stands new = record {

@@ -91,8 +91,8 @@ same_through (t ∷ rest) = ap (λ l. t ∷ l) (same_through rest)
 
 module _ (kind : Access) (region : Region) where
   fields_closed : (given : Given) (fields : List Typed)
-      → map (field_as kind) (map (field_closed given) fields)
-      ≡ map (field_closed given) (map (field_behind kind region) fields)
+      → map (field_as kind) (map (field_closed given) fields) ≡ map (field_closed given)
+      (map (field_behind kind region) fields)
   fields_closed given [] = refl
   fields_closed given (f ∷ rest) =
       λ i. record { name = f.name; of = sym (closed_refers given kind f.of region) i } ∷ fields_closed given rest i
@@ -276,8 +276,8 @@ module _ (types : Types) (owner : ClosedType → Option (List ℕ)) {I K : Type 
           (ap (λ (x : Case). x.target) same ∙ equal ∙ sym (ap (λ (x : Case). x.target) alike))
 
       fields_of : (k : ℕ) (one : Case)
-          → (d : Case) × (slice_get base k ≡ Some d) × (case_behind kind region d ≡ one)
-          → AreApart (names_of one.fields)
+          → (d : Case) × (slice_get base k ≡ Some d) × (case_behind kind region d ≡ one) → AreApart
+          (names_of one.fields)
       fields_of k one (d, is, same) =
           subst (λ (x : Case). AreApart (names_of x.fields)) same
           (subst AreApart (sym (names_behind kind region d.fields)) (u.fields k d is))

@@ -113,8 +113,8 @@ module _ (region : Bytes) (value : Argument) (s : Bindings) where
       (λ name is. value_other name
       (λ same. not_a_region sc region new (subst (IsRegionName sc.regions (parameters_in sc)) same is))) t known.1)
 
-scope_opened : (region : Bytes) (sc : Scope) → ScopeIsKnown sc
-    → ScopeIsKnown (record sc { regions = region ∷ sc.regions })
+scope_opened : (region : Bytes) (sc : Scope) → ScopeIsKnown sc → ScopeIsKnown
+    (record sc { regions = region ∷ sc.regions })
 scope_opened region sc scope =
     record {
       outside = scope.outside;
@@ -149,8 +149,8 @@ module _ (types : Types) (owner : ClosedType → Option (List ℕ)) {I K : Type 
       below_it k is = omega arith
 
   pub place_later : (active : ℕ → Bool) (number later : ℕ) (sc : Scope) (scope : meaning.Scope) (s : Bindings)
-      (names : ℕ → Meaning) → number ≤ later → Place active number sc scope s names
-      → Place active later sc scope s names
+      (names : ℕ → Meaning) → number ≤ later → Place active number sc scope s names → Place active later sc scope s
+      names
   place_later active number later sc scope s names less p = record {
     round = p.round;
     knows = p.knows;
@@ -234,8 +234,8 @@ module _ (types : Types) (owner : ClosedType → Option (List ℕ)) {I K : Type 
           variable = its.variable;
           means = ap (λ b. cond b (Some x) (meaning.variable_of scope name)) other ∙ its.means;
           below = below_it its.variable.number its.below;
-          stands = λ z. put_other number its.variable.number of names (differ its.variable.number its.below)
-              ∙ its.stands z;
+          stands = λ z. put_other number its.variable.number of names (differ its.variable.number its.below) ∙
+              its.stands z;
           of = its.of;
         }
           where
@@ -284,8 +284,8 @@ module _ (types : Types) (owner : ClosedType → Option (List ℕ)) {I K : Type 
           (value_other region (in_region (token z)) s name
           (λ same. not_a_name sc region new (subst (IsTypeName (parameters_in sc)) same is)))
           (more_usable active z (type_for (value_of name s) name) (p.within name is));
-      returns = λ y. sym (opened_stays region (in_region (token z)) s sc new y sc.result p.knows.result.0) ∙ p.returns
-          y;
+      returns = λ y. sym (opened_stays region (in_region (token z)) s sc new y sc.result p.knows.result.0) ∙
+          p.returns y;
     }
       where
         more : Bindings

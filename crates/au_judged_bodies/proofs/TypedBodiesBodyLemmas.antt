@@ -55,8 +55,8 @@ module _ (types : Types) (owner : ClosedType → Option (List ℕ)) {I K : Type 
     are : AreMeant sc ps ofs
     alike : WritesAlike last sc
     place : Place result active (number + length ofs) last
-        (meaning.with_parameters number (fields_given given ps ofs) scope) s (with_types number (kinds_given s ofs)
-        names)
+        (meaning.with_parameters number (fields_given given ps ofs) scope) s
+        (with_types number (kinds_given s ofs) names)
 
   module _ (result : Meaning) (active : ℕ → Bool) (sc : Scope) (s : Bindings) where
     one_more : (p : Labelled Bytes) (rest : List (Labelled Bytes)) (of : Meaning) (number : ℕ) (cur : Scope)
@@ -93,8 +93,9 @@ module _ (types : Types) (owner : ClosedType → Option (List ℕ)) {I K : Type 
           ofs = [];
           are = tt;
           alike = alike;
-          place = place_later types owner see known may_hand given Stands result active number (number + 0) cur scope s
-              names (omega arith) p;
+          place = place_later types owner see known may_hand given Stands result active number (number + 0) cur scope
+              s names
+              (omega arith) p;
         })
     added (q ∷ rest) number cur scope names last alike p e =
         by (written_type cur q.of) refl e

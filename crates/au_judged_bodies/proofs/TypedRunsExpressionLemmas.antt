@@ -187,7 +187,8 @@ module _ (types : Types) (owner : ClosedType → Option (List ℕ)) {I K : Type 
   reaches x fields t target part region IsRef there whole behind is scoped parts its =
       let leads = part_leads types see names active sc scope s given z fits fields target part behind parts in
       subst (λ o. Reaches types owner see known names z active o (names_of fields) (region_running s z region)
-      (run part) IsRef) (sym there.means) (
+      (run part)
+      IsRef) (sym there.means) (
         leads.0,
         run target,
         ap (λ o. meaning.path_numbers (λ u. see.fields u 0) o (names_of fields))
@@ -541,8 +542,8 @@ module _ (types : Types) (owner : ClosedType → Option (List ℕ)) {I K : Type 
           subst (Of c) (ap run (had sc c mean.truth good.2 good.1.0))
               (runs c good.2 (subst (ModeIsKnownIn sc) (sym good.1.0) is_truth) keeps.1),
           subst (Of a) (ap run (sym good.1.2)) (runs a good.3 modes.0 keeps.2),
-          subst (Of b) (ap run (sym (paired_type n.note.mode a b good.1.1) ∙ sym good.1.2)) (runs b good.4 modes.1
-              keeps.3),
+          subst (Of b) (ap run (sym (paired_type n.note.mode a b good.1.1) ∙ sym good.1.2))
+              (runs b good.4 modes.1 keeps.3),
           keeps.0,
         )
     runs (call n f es c) good wanted keeps =

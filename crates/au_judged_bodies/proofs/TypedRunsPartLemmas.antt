@@ -37,7 +37,8 @@ some_pair n t = Some (n, t)
 
 module _ (s : Bindings) (given : Given) (z : ℕ) where
   -- the field of a name is seen by its number, with its closed type, and there is its running type
-  pub field_found : (base : ℕ) (fields : List Typed) (name : Bytes) (next : Meaning) → type_of_name name fields ≡ Some next
+  pub field_found : (base : ℕ) (fields : List Typed) (name : Bytes) (next : Meaning) → type_of_name name fields
+      ≡ Some next
       → (i : ℕ) × (field_from base name (map (field_closed given) fields) ≡ Some (base + i, closed_under given next))
       × (slice_get (map (λ (one : Typed). running s z one.of) fields) i ≡ Some (running s z next))
   field_found base [] name next e = absurd (none-some next e)
@@ -57,7 +58,8 @@ module _ (s : Bindings) (given : Given) (z : ℕ) where
           ≡ Some ((base + 1) + i, closed_under given next))
           × (slice_get (map (λ (x : Typed). running s z x.of) rest) i ≡ Some (running s z next)))
           → (i : ℕ)
-          × (cond b (Some (base, closed_under given one.of)) (field_from (base + 1) name (map (field_closed given) rest))
+          × (cond b (Some (base, closed_under given one.of)) (field_from (base + 1) name
+          (map (field_closed given) rest))
           ≡ Some (base + i, closed_under given next))
           × (slice_get (map (λ (x : Typed). running s z x.of) (one ∷ rest)) i ≡ Some (running s z next))
       by true e later =

@@ -317,7 +317,8 @@ module _ (program : List ModuleParts) (noted : List NotedParts) (fit : Definitio
     has_one = first.1;
     closed = λ tag one is. union_seen program fit params regions given s stands place (named at args) cases known e tag
         one is (each tag one is);
-    runs = λ tag one is. union_runs program fit place params s z (named at args) cases e stands.formed known.0 tag one is;
+    runs = λ tag one is. union_runs program fit place params s z (named at args) cases e stands.formed known.0 tag
+        one is;
     only = λ tag kinds is. only_these tag kinds is;
     means = λ name one is. means_of name one is;
     apart = λ i j one other is its same. apart_of i j one other is its same;

@@ -24,7 +24,9 @@ pub fn seen_calls_run<I, K, E, U, H>()
     ensures { (types : Types) (owner : ClosedType → Option (List ℕ)) (see : View I Note (Unit {0}))
         (known : Callables I K) (active : ℕ → Bool) (s : Bindings) (z : ℕ) (names : ℕ → Meaning) (sc : Scope)
         (scope : meaning.Scope) (given : Given) (calls : Calls K E) (key : K) (handed : Permits U H)
-        (from : U) (heads : List (DeclAt × Head)) (params : List Parameter)
+        (from : U)
+        (heads : List (DeclAt × Head)) (params : List Parameter)
         → SeenCallsRun types owner see known active s z names sc scope given calls key
-        (IsPermitted handed from) (StandsFor heads params given) }
+        (IsPermitted handed from)
+        (StandsFor heads params given) }
 {}

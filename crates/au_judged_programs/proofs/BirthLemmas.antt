@@ -265,7 +265,8 @@ module _ (program : List ModuleParts) (noted : List NotedParts) (checked : IsChe
 
       good : (one.opaque ≡ true) × (is_linear one.universe ≡ true)
       good = and_parts one.opaque (is_linear one.universe)
-          (fine_births (is_of_births (joined e.tree.name ++ 58 ∷ one.name)) (one.opaque && is_linear one.universe) text_is
+          (fine_births (is_of_births (joined e.tree.name ++ 58 ∷ one.name)) (one.opaque && is_linear one.universe)
+          text_is
           (sym (ap (is_fine_type (joined e.tree.name)) declared) ∙ in_part (stands_in program at d found)))
 
   born_at : (at : DeclAt) (head : Head) → head_of (heads_of program) at ≡ Some head → is_of_births head.text ≡ true
@@ -292,7 +293,8 @@ module _ (program : List ModuleParts) (noted : List NotedParts) (checked : IsChe
   undefined : (at : DeclAt) (head : Head) → IsBorn at head → definition_of program at ≡ None
   undefined at head b =
       ap (definition_for program) b.found
-      ∙ ap (λ n. defined_by (body_at n (slice_get program n)) b.d (opaque_name b.d.says)) (placed (stands_in program at b.d b.found))
+      ∙ ap (λ n. defined_by (body_at n (slice_get program n)) b.d (opaque_name b.d.says))
+      (placed (stands_in program at b.d b.found))
       ∙ ap (λ o. defined_by (body_at at.«module» o) b.d (opaque_name b.d.says)) b.here
       ∙ ap (λ o. defined_by (standing_from at.«module» Body 0 (declarations_in o)) b.d (opaque_name b.d.says)) b.bare
       ∙ ap (defined_by (standing_from at.«module» Body 0 []) b.d) opaque.1

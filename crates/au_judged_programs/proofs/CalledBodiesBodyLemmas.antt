@@ -178,7 +178,8 @@ module _ (program : List ModuleParts) (trees : List NotedParts) (erased : erase_
   -- that of a function that is promised, in a module that has a body
   body_promised : AllFulfil program → (m : ModuleParts) (interface entry : Entry) → slice_get program d.place ≡ Some m
       → m.interface ≡ Some interface → m.body ≡ Some entry → d.part ≡ Interface
-      → Contains interface.tree.declarations d.says → (at : Pos) (generics : List (Constrained Bytes)) (h : Header Bytes)
+      → Contains interface.tree.declarations d.says → (at : Pos) (generics : List (Constrained Bytes))
+      (h : Header Bytes)
       → d.says ≡ function at generics h
       → (others : List (Constrained Bytes)) × (its : Header Bytes)
       × HasBody program trees target d.place others its
@@ -271,8 +272,10 @@ is_body program d generics h called body meant over bounds takes gives = record 
 }
 
 module _ (program : List ModuleParts) (d : Standing) (generics : List (Constrained Bytes)) (h : Header Bytes)
-    (called : Callable) (meant_so : IsMeantAs program d generics h called) (body : BodyOf) (place : body.place ≡ d.place)
-    (none : first_misfit (class_meant (written_params body.generics) (types_at program body.place Body) (heads_of program))
+    (called : Callable) (meant_so : IsMeantAs program d generics h called) (body : BodyOf)
+    (place : body.place ≡ d.place)
+    (none : first_misfit (class_meant (written_params body.generics) (types_at program body.place Body)
+    (heads_of program))
     body.generics ≡ None) where
   -- the constraints of a body mean classes
   scope_so : bounds_of program body ≡ called.generics → bounds_in_body program body ≡ called.generics
@@ -345,7 +348,8 @@ module _ (program : List ModuleParts) (d : Standing) (generics : List (Constrain
 
 module _ (program : List ModuleParts) (trees : List NotedParts) (erased : erase_program trees ≡ program)
     (promises : AllFulfil program) (parts : AreOfParts program) (shipped : FunctionsAreShipped program)
-    (meant_all : ConstraintsAreMeant program trees) (target : Target) (d : Standing) (called : Callable) (found : standing_at program target.at ≡ Some d) where
+    (meant_all : ConstraintsAreMeant program trees) (target : Target) (d : Standing) (called : Callable)
+    (found : standing_at program target.at ≡ Some d) where
   abbrev There : Type 0
   There = FunctionIsThere program trees target d called
 
@@ -373,7 +377,8 @@ module _ (program : List ModuleParts) (trees : List NotedParts) (erased : erase_
             (ap (defining_index program d) its.1) in (
               has.0,
               has.1,
-              own_body program d generics h called meant_so has.0 has.2 (meant_all target has.0 has.1) its.1 has.3 has.4,
+              own_body program d generics h called meant_so has.0 has.2 (meant_all target has.0 has.1) its.1 has.3
+                  has.4,
             )
 
     promised : (at : Pos) → d.says ≡ function at generics h → Stands h.name.name
@@ -390,7 +395,8 @@ module _ (program : List ModuleParts) (trees : List NotedParts) (erased : erase_
             absurd (none-some prim.0 (sym none ∙ prim.1))
         defined m is its (Some interface) of_interface (Some entry) of_body =
             let at_place : slice_get program d.place ≡ Some m = ap (slice_get program) its.0 ∙ is in
-            let kept = body_promised program trees erased target d found promises m interface entry at_place of_interface
+            let kept = body_promised program trees erased target d found promises m interface entry at_place
+            of_interface
             of_body its.1
             (listed_at interface.tree.declarations d.index d.says
             (sym (ap (λ o. slice_get (declarations_in o) d.index) of_interface) ∙ its.2)) at generics h says in

@@ -92,7 +92,8 @@ module _ (program : List ModuleParts) (trees : List NotedParts) (place : ℕ) (g
         abbrev Seen : Type 0
         Seen =
             CallIsSeen (types_of program) (owner_of program) (view_under program trees place (parameters generics)
-            given) (ways program trees) active s z note name good.called good.ends
+            given)
+            (ways program trees) active s z note name good.called good.ends
 
         noted : note.call ≡ Some good.ends
         noted = ap (λ (n : Note). n.call) good.is_noted
@@ -106,7 +107,8 @@ module _ (program : List ModuleParts) (trees : List NotedParts) (place : ℕ) (g
                 → Holds (rows_of program) (heads_of program) [] [] wanted (running s z x)
             at x is =
                 holds_run (rows_of program) (heads_of program) fits.table (parameters generics)
-                (constraints_of generics) s z stands.formed (known_holds program generics s holds) wanted x
+                (constraints_of generics) s z
+                stands.formed (known_holds program generics s holds) wanted x
                 (held_here here fits.table good.ends (wanted_of good.called) good.all_hold p wanted x is
                 (constraint_wanted good.called p wanted c))
                 (well_formed_stands (heads_of program) (parameters generics) x (known.values p (of_type x) is).0)
@@ -124,7 +126,8 @@ module _ (program : List ModuleParts) (trees : List NotedParts) (place : ℕ) (g
         puts = record { values = known.values; fit = known.fit; fixes = known.fixes }
 
         module _ (target : Target) (means : find name (seen_at Callables program place Body) ≡ Some target)
-            (d : Standing) (found : standing_at program target.at ≡ Some d)
+            (d : Standing)
+            (found : standing_at program target.at ≡ Some d)
             (declared : declared_callable program d target.at target.name d.says ≡ Some good.called) where
           well : has_headers d.says ≡ true → IsDeclaredWell program good.called
           well headers = record {
@@ -142,28 +145,33 @@ module _ (program : List ModuleParts) (trees : List NotedParts) (place : ℕ) (g
                   let its = there.stands none in
                   function_seen (types_of program) (owner_of program) program trees place (parameters generics) regions
                   given s z active runs note name target d there.declared good.called good.ends its.0 means found
-                  there.leads none its.1 its.2 (well headers) noted (ap (λ (n : Note). n.of) good.is_noted) puts
-                  holds_called
+                  there.leads
+                  none its.1 its.2 (well headers) noted (ap (λ (n : Note). n.of) good.is_noted) puts holds_called
               by (Some prim) is =
-                  (others regions s z active runs holds).0 note name target d good.called good.ends there.declared prim
-                  there.leads is means found declared (well headers) noted (ap (λ (n : Note). n.of) good.is_noted) puts
+                  (others regions s z active runs holds).0 note name target d good.called good.ends there.declared
+                  prim there.leads
+                  is means found declared (well headers) noted (ap (λ (n : Note). n.of) good.is_noted) puts
 
           by_maker : (type : Bytes) → whole_name d.says ≡ Some type → Seen
           by_maker type whole =
               maker_seen program trees fits.fit fits.apart fits.own place (parameters generics) regions given s z stands
               (ways program trees) active note name target d type good.called good.ends means found whole declared
-              (frame.known.outside.takes name good.called good.is_called) (ap (λ (n : Note). n.of) good.is_noted)
-              (result_known here note name takes args good known (frame.known.outside.gives name good.called
-              good.is_called)) known.fixes
+              (frame.known.outside.takes name good.called good.is_called)
+              (ap (λ (n : Note). n.of) good.is_noted)
+              (result_known here note name takes args good known
+              (frame.known.outside.gives name good.called good.is_called))
+              known.fixes
 
           by_says : (says : PlainDeclaration) → d.says ≡ says
               → declared_callable program d target.at target.name says ≡ Some good.called → Seen
           by_says (function at gs h) is e =
               by_function (ap has_headers is) (function_there program trees fits.erased fits.kept fits.parts
-              fits.shipped fits.meant target d good.called found (ap is_function is) declared)
+              fits.shipped fits.meant target d good.called
+              found (ap is_function is) declared)
           by_says (function_body at gs h block stop) is e =
               by_function (ap has_headers is) (function_there program trees fits.erased fits.kept fits.parts
-              fits.shipped fits.meant target d good.called found (ap is_function is) declared)
+              fits.shipped fits.meant target d good.called
+              found (ap is_function is) declared)
           by_says (class at n p methods) is e =
               (others regions s z active runs holds).1 note name target d good.called good.ends (ap is_class is)
               (here, refl, refl, good.all_hold) means found
@@ -193,8 +201,9 @@ module _ (program : List ModuleParts) (trees : List NotedParts) (place : ℕ) (g
       here_run : Runs here
       here_run =
           seen_run (types_of program) (owner_of program)
-          (view_under program trees place (parameters generics) given) (ways program trees) active s z names here scope
-          given calls key may_hand (AreGoodHere program trees place generics given) (stands, holds) allows frame.known
+          (view_under program trees place (parameters generics) given) (ways program trees) active s z names here
+          scope given
+          calls key may_hand (AreGoodHere program trees place generics given) (stands, holds) allows frame.known
           (λ note name takes args good mode known. call_seen note name takes args good mode known)
 
 pub all_run : (program : List ModuleParts) (trees : List NotedParts) (place : ℕ) (generics : List Bounded)
@@ -209,12 +218,13 @@ pub all_run : (program : List ModuleParts) (trees : List NotedParts) (place : �
     given z
     → CallsRun (types_of program) (owner_of program) (view_under program trees place (parameters generics) given)
     (callees (ways program trees) calls key) may_hand names active sc scope s given z
-all_run program trees place generics given calls key may_hand fits others allows names active sc scope s z outside over
-    stands holds frame =
+all_run program trees place generics given calls key may_hand fits others allows names active sc scope s z outside
+    over stands holds frame =
     subst (λ (gs : List Bounded). Goes (in_scope sc.outside gs)) (sym over)
     (subst (λ (o : Outside). Goes (in_scope o generics)) (sym outside)
-    (λ f. here_run program trees place generics given fits others names active scope s z stands holds calls key may_hand
-    allows sc.result sc.regions
+    (λ f. here_run program trees place generics given fits others names active scope s z stands holds calls key
+    may_hand allows
+    sc.result sc.regions
     sc.variables f)) frame
   where
     in_scope : Outside → List Bounded → Scope

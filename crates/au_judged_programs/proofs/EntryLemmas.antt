@@ -1,6 +1,5 @@
 -- Runs from a function that has the form of an entry.
-use Rattle.std.proofs.Common.{◌≡◌, ℕ, Bool, true, false, true≢false, List, [], ◌∷◌, map, Option, None, Some, refl, sym}
-use Rattle.std.proofs.Common.{ap}
+use Rattle.std.proofs.Common.{◌≡◌, ℕ, Bool, true, false, true≢false, List, [], ◌∷◌, map, Option, None, Some, refl, sym, ap}
 use Rattle.std.proofs.Common.{◌∙◌, subst}
 use Rattle.std.specs.Prelude.{codes, if◌then◌else◌}
 use Rattle.std.specs.Option.{option_map}
@@ -120,8 +119,8 @@ module _ (program : List ModuleParts) (noted : List NotedParts) (checked : IsChe
       by true is e =
           let its = type_named (heads_of program) (codes "Austral.Pervasive:RootCapability")
           (meant [] [] names (heads_of program) p.of) is in
-          let root : (types_of program).is_root (named its.0 no_arguments) ≡ true = ap (has_text root_text) its.3
-          ∙ its.4 in (
+          let root : (types_of program).is_root (named its.0 no_arguments) ≡ true = ap (has_text root_text) its.3 ∙
+          its.4 in (
             subst (λ t. (types_of program).is_root t ≡ true) (sym (runs_so p.of its.0 its.2)) root,
             subst (λ c. IsHomeOf (owner_of program) c (codes "Austral.Pervasive"))
                 (sym (ap (λ o. closed_or_unit (option_map (closed_under []) o))

@@ -175,7 +175,8 @@ module _ (program : List ModuleParts) (noted : List NotedParts) (checked : IsChe
       → type_itself program d.place name (map parameter one.parameters) ≡ Some t
       → IsDeclared (heads_of program) (map parameter one.parameters) t
   own at d name one t found whole declared itself =
-      let its = own_types_are program (parts_hold program checked.gathered) good checked.declared.once at d name one t found
+      let its = own_types_are program (parts_hold program checked.gathered) good checked.declared.once at d name one
+      t found
       whole declared itself in
       subst (IsDeclared (heads_of program) (map parameter one.parameters)) its.is
       (itself_declared (heads_of program) one.parameters its.apart its.at its.head its.has its.same)

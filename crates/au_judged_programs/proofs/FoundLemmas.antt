@@ -184,14 +184,16 @@ callable_marked part (class at n p methods) name m =
     )
 callable_marked part (function at gs h) name (inl is) = (
   h.name.at,
-  inside (Declares Promise kinds.Callables name h.name.at) (function_marks Promise gs h) (in_header Promise gs h name is),
+  inside (Declares Promise kinds.Callables name h.name.at) (function_marks Promise gs h)
+      (in_header Promise gs h name is),
 )
 callable_marked part (function at gs h) name (inr later) = absurd later
 callable_marked part (function_body at gs h block stop) name (inl is) =
     let mark = Declares Definition kinds.Callables name h.name.at in (
       h.name.at,
       inside mark (function_marks Definition gs h ++ block_marks block)
-          (among-append_left (function_marks Definition gs h) (block_marks block) mark (in_header Definition gs h name is)),
+          (among-append_left (function_marks Definition gs h) (block_marks block) mark
+          (in_header Definition gs h name is)),
     )
 callable_marked part (function_body at gs h block stop) name (inr later) = absurd later
 callable_marked part (constant at n t) name m = absurd m
@@ -360,7 +362,8 @@ module _ (program : List ModuleParts) (noted : List NotedParts) (erased : erase_
 
       by : (x : PlainDeclaration) → says ≡ x → Among name (callable_names x) → HasItsBody (target_here place name k)
       by (function pos gs h) same (inl named) =
-          body_from program noted erased (target_here place name k) d found first.index m first.says f.generics f.header is
+          body_from program noted erased (target_here place name k) d found first.index m first.says f.generics
+          f.header is
           first.there written
           (ap (λ o. defining_in program place o says) is
           ∙ ap (defining_in program place (Some m)) same
@@ -525,7 +528,8 @@ module _ (program : List ModuleParts) (noted : List NotedParts) (checked : IsChe
       )
 
   module _ (place : ℕ) where
-    entry_is : (f : Function) → form_at program place f ≡ Some root → HasBody program noted target place f.generics f.header
+    entry_is : (f : Function) → form_at program place f ≡ Some root → HasBody program noted target place f.generics
+        f.header
         → IsEntryHere program noted target
     entry_is f form (body, there, at, generics, header) = record {
       body = body;
@@ -541,7 +545,8 @@ module _ (program : List ModuleParts) (noted : List NotedParts) (checked : IsChe
         → (t : Target) → target_at program place name ≡ Some t → HasBody program noted t place f.generics f.header
     within f None is e = absurd (none-some f e)
     within f (Some m) is e =
-        meant_there program noted checked.derives.erased (parts_hold program checked.gathered) checked.declared.once place
+        meant_there program noted checked.derives.erased (parts_hold program checked.gathered) checked.declared.once
+        place
         name f m is
         (function_first name (declarations_in m.body) f
         (ap (function_among name) (sym (seen_declarations m.body)) ∙ e))

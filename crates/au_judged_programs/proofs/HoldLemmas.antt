@@ -215,7 +215,8 @@ arguments_become q (reads to region) one e = absurd cc
 arguments_become q (writes to region) one e = absurd cc
 
 -- the value of a name that is among the arguments of a row's head
-pub value_given : {heads : List (DeclAt × Head)} {scope : List Parameter} (P : Argument → Type 0) (row : Row) (t : Meaning)
+pub value_given : {heads : List (DeclAt × Head)} {scope : List Parameter} (P : Argument → Type 0) (row : Row)
+    (t : Meaning)
     (q : Bindings) → HasForm row.generics row.head → Becomes heads scope row t q
     → EachArgument P (arguments_of t) → (name : Bytes) → stands_in name (arguments_of row.head) ≡ true
     → (value : Argument) × (value_of name q ≡ Some value) × P value
@@ -246,7 +247,8 @@ module _ (heads : List (DeclAt × Head)) (scope : List Parameter) where
 
 -- ---- what holds of a type holds of the type where it runs
 
-module _ (rows : List Row) (heads : List (DeclAt × Head)) (table : IsTable rows) (scope : List Parameter) (known : Known)
+module _ (rows : List Row) (heads : List (DeclAt × Head)) (table : IsTable rows) (scope : List Parameter)
+    (known : Known)
     (s : Bindings) (z : ℕ) (formed : BindingsAreWellFormed heads scope [] s)
     (met : (name : Bytes) (class : DeclAt) (value : Meaning) → is_known known name class ≡ true
     → value_of name s ≡ Some (of_type value) → Holds rows heads [] [] class value) where
@@ -279,7 +281,8 @@ module _ (rows : List Row) (heads : List (DeclAt × Head)) (table : IsTable rows
           ∙ ap (running s z) becomes.makes.equal;
     };
     fit = λ name universe e.
-        let its = value_given (ArgumentStandsOver heads scope) row t q form becomes (arguments_over heads scope t stands) name
+        let its = value_given (ArgumentStandsOver heads scope) row t q form becomes
+        (arguments_over heads scope t stands) name
         (parameter_stands heads scope (parameters row.generics) q (parameters row.generics) (arguments_of row.head) name
         universe form.stand e) in
         subst (λ o. fits heads [] universe (stand_in o universe name) ≡ true) (sym (running_value q name its.0 its.1))
@@ -349,12 +352,14 @@ module _ (rows : List Row) (heads : List (DeclAt × Head)) (table : IsTable rows
         (becomes_runs r v q (table.formed r listed) stands becomes)
         (λ name wanted value c is.
         type_before r v q (table.formed r listed) stands becomes name wanted value c is
-        (λ x e over same. subst (Holds rows heads [] [] wanted) same (holds_run wanted x (constraints name wanted x c e) over)))
+        (λ x e over same. subst (Holds rows heads [] [] wanted) same
+        (holds_run wanted x (constraints name wanted x c e) over)))
 
 -- ---- what a call wants
 
 -- the constraints that are known in a body hold where it runs
-pub known_holds : (program : List ModuleParts) (generics : List Bounded) (s : Bindings) → ConstraintsHold program generics s
+pub known_holds : (program : List ModuleParts) (generics : List Bounded) (s : Bindings) → ConstraintsHold program
+    generics s
     → (name : Bytes) (class : DeclAt) (value : Meaning) → is_known (constraints_of generics) name class ≡ true
     → value_of name s ≡ Some (of_type value) → Holds (rows_of program) (heads_of program) [] [] class value
 known_holds program generics s holds name class value known is =
@@ -370,7 +375,8 @@ constraint_wanted called p class c =
 
 -- what is wanted holds where nothing is lacking
 pub held_here : (sc : Scope) → IsTable sc.outside.instances → (put : Bindings) (wanted : Known)
-    → first_lacking sc put wanted ≡ None → (p : Bytes) (class : DeclAt) (t : Meaning) → value_of p put ≡ Some (of_type t)
+    → first_lacking sc put wanted ≡ None → (p : Bytes) (class : DeclAt) (t : Meaning) → value_of p put ≡ Some
+    (of_type t)
     → Contains wanted (p, class)
     → Holds sc.outside.instances sc.outside.heads (parameters_in sc) (constraints_of sc.generics) class t
 held_here sc table put wanted none p class t is there =

@@ -205,58 +205,59 @@ module _ (program : List ModuleParts) (noted : List NotedParts) (owner : ClosedT
     -- ---- the whole judgement
 
     besides : BesidesAll (view_of program noted key.body given) loose may_hold (IsPermitted handed key)
-        (function.first + length function.parameters) good.0.body.scope (scope_of function) key.body.block
+        (function.first + length function.parameters)
+        good.0.body.scope (scope_of function) key.body.block
     besides =
         subst (λ (ps : List Parameter). BesidesAll (view_under program noted key.body.place ps given) loose may_hold
-        (IsPermitted handed key) (function.first + length function.parameters) good.0.body.scope (scope_of function)
-        key.body.block) (sym alike)
-        (bodies_asked function may_hold (IsPermitted handed key) outside key.body.generics key.body.header good.0 good.1
-        covers)
+        (IsPermitted handed key)
+        (function.first + length function.parameters) good.0.body.scope (scope_of function) key.body.block) (sym alike)
+        (bodies_asked function may_hold (IsPermitted handed key) outside key.body.generics key.body.header good.0
+        good.1 covers)
 
-    module _ (calls : CallsRunHere program noted key.body.place generics given owner known
-        (IsPermitted handed key)) where
-      runs_at : (active : ℕ → Bool) → AreActive active key.tokens
-          → BodyRuns program noted key.body given owner known permits key loose active (first key.one) key.s
-          (λ k. unit)
-      runs_at active are =
-          body_runs program noted key.body given owner known (IsPermitted handed key) permits key checked good.0.body
-          (constants_of_programs_stand program noted checked key.body.place generics given) calls
-          (λ kind. covers.integers kind key.s (stands, key.holds)) loose active
-          (first key.one) key.s (λ k. unit) (stands, key.holds) (opened active are) (within active are) besides
+    module _ (calls : CallsRunHere program noted key.body.place generics given owner known (IsPermitted handed key))
+      where
+        runs_at : (active : ℕ → Bool) → AreActive active key.tokens
+            → BodyRuns program noted key.body given owner known permits key loose active (first key.one) key.s
+            (λ k. unit)
+        runs_at active are =
+            body_runs program noted key.body given owner known (IsPermitted handed key) permits key checked good.0.body
+            (constants_of_programs_stand program noted checked key.body.place generics given) calls
+            (λ kind. covers.integers kind key.s (stands, key.holds)) loose active
+            (first key.one) key.s (λ k. unit) (stands, key.holds) (opened active are) (within active are) besides
 
-      abbrev Run : (ℕ → Bool) → List Parameter → List Meaning → Meaning → Type 0
-      Run active ps kinds result =
-          RunsAll (types_of program) owner (view_under program noted key.body.place ps given) known result
-          loose permits key active (function.first + length function.parameters) (scope_of function) key.body.block
-          (with_types function.first kinds (λ k. unit))
+        abbrev Run : (ℕ → Bool) → List Parameter → List Meaning → Meaning → Type 0
+        Run active ps kinds result =
+            RunsAll (types_of program) owner (view_under program noted key.body.place ps given) known result
+            loose permits key active (function.first + length function.parameters) (scope_of function) key.body.block
+            (with_types function.first kinds (λ k. unit))
 
-      runs : (active : ℕ → Bool) → AreActive active key.tokens
-          → Run active (written_params key.body.generics) ((ways program noted).parameters key)
-          ((ways program noted).result key)
-      runs active are =
-          let its = runs_at active are in
-          subst (λ ps. Run active ps ((ways program noted).parameters key) ((ways program noted).result key)) alike
-          (subst (λ kinds. Run active (parameters generics) kinds ((ways program noted).result key))
-          (kinds_alike labels its.ofs its.takes)
-          (subst (λ of. Run active (parameters generics) (kinds_given key.s its.ofs) of)
-          (runs_so key.body.header.result its.result its.gives) its.runs))
+        runs : (active : ℕ → Bool) → AreActive active key.tokens
+            → Run active (written_params key.body.generics) ((ways program noted).parameters key)
+            ((ways program noted).result key)
+        runs active are =
+            let its = runs_at active are in
+            subst (λ ps. Run active ps ((ways program noted).parameters key) ((ways program noted).result key)) alike
+            (subst (λ kinds. Run active (parameters generics) kinds ((ways program noted).result key))
+            (kinds_alike labels its.ofs its.takes)
+            (subst (λ of. Run active (parameters generics) (kinds_given key.s its.ofs) of)
+            (runs_so key.body.header.result its.result its.gives) its.runs))
 
-      may_run : MayRun (types_of program) owner permits (ways program noted) allowed function key
-      may_run =
-          let its = runs_at (λ k. true) (all_active key.tokens) in record {
-            many = length-map (map (field_under (types_at program key.body.place Body) (heads_of program)
-                (written_params key.body.generics) given) labels) field_seen
-                ∙ (length-map labels (field_under (types_at program key.body.place Body) (heads_of program)
-                (written_params key.body.generics) given)
-                ∙ sym (length-map labels (λ (p : Labelled Bytes). written_running program key.body key.s p.of)));
-            names = λ k. unit;
-            loose = loose;
-            fine = subst (Fine (first key.one)) (kinds_alike labels its.ofs its.takes)
-                (fine (first key.one) labels its.ofs (λ p there. there) its.takes
-                (parameters_drop function outside key.body.generics key.body.header));
-            runs = runs;
-            ahead = (bodies_ahead function outside key.body.generics key.body.header good.0).1;
-          }
+        may_run : MayRun (types_of program) owner permits (ways program noted) allowed function key
+        may_run =
+            let its = runs_at (λ k. true) (all_active key.tokens) in record {
+              many = length-map (map (field_under (types_at program key.body.place Body) (heads_of program)
+                  (written_params key.body.generics) given) labels) field_seen
+                  ∙ (length-map labels (field_under (types_at program key.body.place Body) (heads_of program)
+                  (written_params key.body.generics) given)
+                  ∙ sym (length-map labels (λ (p : Labelled Bytes). written_running program key.body key.s p.of)));
+              names = λ k. unit;
+              loose = loose;
+              fine = subst (Fine (first key.one)) (kinds_alike labels its.ofs its.takes)
+                  (fine (first key.one) labels its.ofs (λ p there. there) its.takes
+                  (parameters_drop function outside key.body.generics key.body.header));
+              runs = runs;
+              ahead = (bodies_ahead function outside key.body.generics key.body.header good.0).1;
+            }
 
 pub programs_judged : (program : List ModuleParts) (noted : List NotedParts) (owner : ClosedType → Option (List ℕ))
     {W E H : Type 0} (permits : Permits (Key program noted) W) (calls : Calls (Key program noted) E)

@@ -52,7 +52,8 @@ module _ (heads : List (DeclAt × Head)) (params : List Parameter) where
   abbrev pub IsFormed : Argument → Type 0
   IsFormed one = argument_formed (fits heads params) heads params one ≡ true
 
-  each_formed : (args : Arguments) → all_formed (fits heads params) heads params args ≡ true → EachArgument IsFormed args
+  each_formed : (args : Arguments) → all_formed (fits heads params) heads params args ≡ true → EachArgument IsFormed
+      args
   unfolding all_formed
   each_formed no_arguments h = tt
   each_formed (arguments one rest) h =
@@ -132,7 +133,8 @@ module _ (q : Bindings) (name : Bytes) where
   pairs_close (arguments (in_region region) rest) list e there = pairs_close rest list e there
   pairs_close (arguments (of_type u) rest) list e there =
       let its = front_gave (closed (substituted q u)) (all_closed (all_substituted q rest)) list e in
-      subst (λ l. closed (substituted q (parameter name)) ≡ Some (given_for (paired (types_in (arguments (of_type u) rest))
+      subst (λ l. closed (substituted q (parameter name)) ≡ Some
+      (given_for (paired (types_in (arguments (of_type u) rest))
       (listed l)) name)) its.4
       (by its.0 its.1 its.2 (type_name u) refl there (λ later. pairs_close rest its.1 its.3 later))
     where
@@ -142,7 +144,8 @@ module _ (q : Bindings) (name : Bytes) where
           → (list_any (λ t. is_called name (type_name t)) (types_in rest) ≡ true
           → closed (substituted q (parameter name)) ≡ Some (given_for (paired (types_in rest) (listed others)) name))
           → closed (substituted q (parameter name))
-          ≡ Some (closed_or_unit (cond b (Some first) (lookup (bytes_eq name) (paired (types_in rest) (listed others)))))
+          ≡ Some (closed_or_unit (cond b (Some first) (lookup (bytes_eq name)
+          (paired (types_in rest) (listed others)))))
       at other true same first others closes h later =
           ap (λ n. closed (substituted q (parameter n))) ((bytes_eq-Decides name other).0 same) ∙ closes
       at other false same first others closes h later = later h
@@ -155,7 +158,8 @@ module _ (q : Bindings) (name : Bytes) where
           → closed (substituted q (parameter name))
           ≡ Some (given_for (pair_before (type_name u) first (paired (types_in rest) (listed others))) name)
       by first others closes None is h later =
-          later h ∙ ap (λ o. Some (given_for (pair_before o first (paired (types_in rest) (listed others))) name)) (sym is)
+          later h ∙ ap (λ o. Some (given_for (pair_before o first (paired (types_in rest) (listed others))) name))
+          (sym is)
       by first others closes (Some other) is h later =
           at other (bytes_eq name other) refl first others
           (ap (λ t. closed (substituted q t)) (sym (named_parameter u other is)) ∙ closes) h later
@@ -221,7 +225,8 @@ module _ (heads : List (DeclAt × Head)) (row : Row) (form : HasForm row.generic
           (among params (arguments_of row.head) name universe e own
           (head_own row.generics row.head form name universe e) (among_arguments name universe e))
           ∙ ap (λ l. Some (given_for (paired (types_in (arguments_of row.head)) l) name)) (sym its.2)
-          ∙ ap Some (sym (picked_found (paired (types_in (arguments_of row.head)) (types_within c)) (type_names params) name
+          ∙ ap Some (sym (picked_found (paired (types_in (arguments_of row.head)) (types_within c))
+          (type_names params) name
           (type_named params name universe e own)))
 
   pub row_stands : IsWellFormed heads [] t → (c : ClosedType) → closed t ≡ Some c

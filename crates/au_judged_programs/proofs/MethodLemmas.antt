@@ -59,13 +59,16 @@ use Rattle.au_judged_programs.proofs.MethodSeenLemmas.{call_known, called_is, me
 use Rattle.au_judged_programs.proofs.MethodSeenLemmas.{row_given, row_is}
 
 module _ (program : List ModuleParts) (noted : List NotedParts) (shipped : ShippedMethodsAreSeen program noted)
-    (checked : IsChecked program noted) (place : ℕ) (generics : List Bounded) (given : Given) (regions : List Bytes) (s : Bindings) (z : ℕ) (active : ℕ → Bool)
-    (runs : BodyRuns program (parameters generics) regions given s z active) (holds : ConstraintsHold program generics s)
+    (checked : IsChecked program noted) (place : ℕ) (generics : List Bounded) (given : Given) (regions : List Bytes)
+    (s : Bindings) (z : ℕ) (active : ℕ → Bool)
+    (runs : BodyRuns program (parameters generics) regions given s z active)
+    (holds : ConstraintsHold program generics s)
     (note : Note) (name : Bytes) (target : Target) (d : Standing) (called : Callable) (put : Bindings)
     (here : HoldsHere program noted place generics given called put)
     (means : tables.find name (seen_at Callables program place Body) ≡ Some target)
     (found : standing_at program target.at ≡ Some d)
-    (has : declared_callable program d target.at target.name d.says ≡ Some called) (well : IsDeclaredWell program called)
+    (has : declared_callable program d target.at target.name d.says ≡ Some called)
+    (well : IsDeclaredWell program called)
     (notes : note.call ≡ Some put) (of : note.of ≡ substituted put called.result)
     (puts : IsPut (heads_of program) (parameters generics) regions (parameters called.generics) put) where
   abbrev heads : List (DeclAt × Head)
@@ -85,7 +88,8 @@ module _ (program : List ModuleParts) (noted : List NotedParts) (shipped : Shipp
     -- the type that is put for the class's parameter
     abbrev taken : Meaning
     taken =
-        of_call program noted checked place (parameters generics) regions given s z active runs note name target d called
+        of_call program noted checked place (parameters generics) regions given s z active runs note name target d
+        called
         put means found has well notes of puts pos class_name p methods says h found_h
 
     -- the class is wanted of it
@@ -128,7 +132,8 @@ module _ (program : List ModuleParts) (noted : List NotedParts) (shipped : Shipp
     method_is_seen : Seen
     method_is_seen =
         let its = row_given (rows_of program) heads target.at (running s z taken) class_runs in
-        by its.0 its.1 (prim_of (module_name program its.0.instance.«module») h.name.name (kind_of (closed_under given taken)))
+        by its.0 its.1 (prim_of (module_name program its.0.instance.«module») h.name.name
+        (kind_of (closed_under given taken)))
         refl
       where
         by : (row : Row) → Instance (rows_of program) heads [] [] target.at (running s z taken) row
@@ -136,12 +141,14 @@ module _ (program : List ModuleParts) (noted : List NotedParts) (shipped : Shipp
             → prim_of (module_name program row.instance.«module») h.name.name (kind_of (closed_under given taken)) ≡ o
             → Seen
         by row its None none =
-            method_seen program noted checked place (parameters generics) regions given s z active runs note name target d
+            method_seen program noted checked place (parameters generics) regions given s z active runs note name
+            target d
             called put means found has well notes of puts pos class_name p methods says h found_h row its none
         by row its (Some prim) is =
             shipped checked place (parameters generics) regions given s z active runs note name
             target d called put h.name.name p.name.name row prim (ap is_class says)
-            (called_is program noted checked place (parameters generics) regions given s z active runs note name target d
+            (called_is program noted checked place (parameters generics) regions given s z active runs note name
+            target d
             called put means found has well notes of puts pos class_name p methods says h found_h row its)
             (row_is program noted checked place (parameters generics) regions given s z active runs note name target d
             called put means found has well notes of puts pos class_name p methods says h found_h row its)
@@ -173,20 +180,25 @@ pub methods_seen : (program : List ModuleParts) (noted : List NotedParts) → Sh
     (generics : List Bounded) (given : Given) (regions : List Bytes) (s : Bindings) (z : ℕ) (active : ℕ → Bool)
     → BodyRuns program (parameters generics) regions given s z active → ConstraintsHold program generics s
     → MethodsAreSeen program noted place generics given regions s z active
-methods_seen program noted shipped checked place generics given regions s z active runs holds note name target d called put is
+methods_seen program noted shipped checked place generics given regions s z active runs holds note name target d
+    called put is
     here means found has well notes of puts =
-    by_says program noted shipped checked place generics given regions s z active runs holds note name target d called put here
+    by_says program noted shipped checked place generics given regions s z active runs holds note name target d
+    called put here
     means found has well notes of puts d.says refl is has
 
 -- ---- of all
 
 -- those of shipped instances are seen
 shipped_methods : (program : List ModuleParts) (noted : List NotedParts) → ShippedMethodsAreSeen program noted
-shipped_methods program noted checked place params regions given s z active runs note name target d called put declared param
+shipped_methods program noted checked place params regions given s z active runs note name target d called put
+    declared param
     row call is_a_class leading found_row shipped_so means found declares well notes of puts =
     shipped_method_seen program noted checked place params regions given s z active runs note name target d called put
     declared param row call leading found_row shipped_so means found declares well notes of puts
 
-pub methods_of_programs : (program : List ModuleParts) (noted : List NotedParts) → MethodsOfProgramsAreSeen program noted
+pub methods_of_programs : (program : List ModuleParts) (noted : List NotedParts) → MethodsOfProgramsAreSeen program
+    noted
 methods_of_programs program noted checked place generics given regions s z active runs holds =
-    methods_seen program noted (shipped_methods program noted) checked place generics given regions s z active runs holds
+    methods_seen program noted (shipped_methods program noted) checked place generics given regions s z active runs
+    holds

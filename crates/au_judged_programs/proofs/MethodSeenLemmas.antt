@@ -172,7 +172,8 @@ module _ (rows : List Row) (heads : List (DeclAt × Head)) where
   row_given class_of t (given_by_row one v row instance) = (row, instance)
 
   -- it gives the instance at the closed type, too
-  pub row_closed : IsTable rows → (class_of : DeclAt) (t : Meaning) (row : Row) → Instance rows heads [] [] class_of t row
+  pub row_closed : IsTable rows → (class_of : DeclAt) (t : Meaning) (row : Row) → Instance rows heads [] [] class_of
+      t row
       → IsWellFormed heads [] t → (c : ClosedType) → closed t ≡ Some c → ClosedInstance rows heads class_of c row
   row_closed table class_of t row instance formed c closes =
       instance_closed heads [] [] (λ name universe e. absurd (none-some universe e)) rows [] table
@@ -183,11 +184,13 @@ module _ (rows : List Row) (heads : List (DeclAt × Head)) where
 
 module _ (program : List ModuleParts) (noted : List NotedParts) (checked : IsChecked program noted) (place : ℕ)
     (params : List Parameter) (regions : List Bytes) (given : Given) (s : Bindings) (z : ℕ) (active : ℕ → Bool)
-    (runs : BodyRuns program params regions given s z active) (note : Note) (name : Bytes) (target : Target) (d : Standing)
+    (runs : BodyRuns program params regions given s z active) (note : Note) (name : Bytes) (target : Target)
+    (d : Standing)
     (called : Callable) (put : Bindings)
     (means : tables.find name (seen_at Callables program place Body) ≡ Some target)
     (found : standing_at program target.at ≡ Some d)
-    (has : declared_callable program d target.at target.name d.says ≡ Some called) (well : IsDeclaredWell program called)
+    (has : declared_callable program d target.at target.name d.says ≡ Some called)
+    (well : IsDeclaredWell program called)
     (notes : note.call ≡ Some put) (of : note.of ≡ substituted put called.result)
     (puts : IsPut (heads_of program) params regions (parameters called.generics) put) (pos : Pos)
     (class_name : Placed Bytes) (p : InUniverse Bytes) (methods : List (Header Bytes))
@@ -271,7 +274,8 @@ module _ (program : List ModuleParts) (noted : List NotedParts) (checked : IsChe
     closed_instance : ClosedInstance (rows_of program) heads target.at c row
     closed_instance = row_closed (rows_of program) heads table target.at rt row instance rt_formed c rt_closes
 
-    pub row_is : closed_row (rows_of program) heads (closed_under given (substituted put (parameter p.name.name))) target.at
+    pub row_is : closed_row (rows_of program) heads (closed_under given (substituted put (parameter p.name.name)))
+        target.at
         ≡ Some row
     row_is =
         ap (λ t. closed_row (rows_of program) heads (closed_under given t) target.at) put_is
@@ -357,7 +361,8 @@ module _ (program : List ModuleParts) (noted : List NotedParts) (checked : IsChe
         type_so w u t is written same =
             ap (λ o. running q 0 (meant_or_unit o))
             (sym same ∙ wanted_is w ∙ ap (option_map (substituted hb)) is)
-            ∙ sym (type_called q hb (called_at q 0 hb) 0 0 (callees_run q hb 0) t written.lasting (head_fixes t written))
+            ∙ sym (type_called q hb (called_at q 0 hb) 0 0 (callees_run q hb 0) t written.lasting
+            (head_fixes t written))
             ∙ both_alike t written
             ∙ type_taken program body s z put inner its_put.fixes t written
 
@@ -378,12 +383,15 @@ module _ (program : List ModuleParts) (noted : List NotedParts) (checked : IsChe
           where
             on : (x : Typed) × (others : List Typed) × (typed program d inner w ≡ Some x)
                 × (all_typed program d inner ws ≡ Some others) × (x ∷ others ≡ kinds)
-                → ((others : List Typed) → all_typed program d inner ws ≡ Some others → EachIsDeclared heads inner others
+                → ((others : List Typed) → all_typed program d inner ws ≡ Some others → EachIsDeclared heads inner
+                others
                 → EachRuns program body q s z put vs others)
                 → EachRuns program body q s z put (v ∷ vs) kinds
             on (x, others, first, it, whole) later =
-                let from = map_some (λ t. record { name = w.name.name; of = t }) (meant_in program d inner w.of) x first in
-                let sure : EachIsDeclared heads inner (x ∷ others) = subst (EachIsDeclared heads inner) (sym whole) known in
+                let from = map_some (λ t. record { name = w.name.name; of = t }) (meant_in program d inner w.of) x
+                first in
+                let sure : EachIsDeclared heads inner (x ∷ others) = subst (EachIsDeclared heads inner) (sym whole)
+                known in
                 subst (EachRuns program body q s z put (v ∷ vs)) whole (
                   sym alike.0.0 ∙ ap (λ (y : Typed). y.name) from.2,
                   type_so w.of v.of x.of (from.1 ∙ ap (λ (y : Typed). Some y.of) from.2) sure.0.1 alike.0.1,
@@ -419,7 +427,8 @@ module _ (program : List ModuleParts) (noted : List NotedParts) (checked : IsChe
         body_seen : CallIsSeen (types_of program) (owner_of program) (view_under program noted place params given)
             (ways program noted) active s z note name called put
         body_seen =
-            key_seen (types_of program) (owner_of program) program noted place params given s z active note name called put
+            key_seen (types_of program) (owner_of program) program noted place params given s z active note name
+            called put
             key leads
             (each_runs h.parameters body.header.parameters called.parameters signed.0 its.1
             (subst (λ ps. EachIsDeclared heads ps called.parameters) over well.takes))

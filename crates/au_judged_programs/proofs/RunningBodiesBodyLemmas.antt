@@ -22,8 +22,7 @@ use Rattle.au_type_texts.specs.Types.{ClosedType}
 use Rattle.au_written_types.specs.Written.{IsRegionName}
 use Rattle.au_modules.specs.Programs.{ModuleParts}
 use Rattle.au_names.specs.HeadsOf.{heads_of}
-use Rattle.au_judged_bodies.specs.Typing.Bodies.{GoodBody, body_scope, generics_in, outer_scope, with_parameters}
-use Rattle.au_judged_bodies.specs.Typing.Bodies.{with_result}
+use Rattle.au_judged_bodies.specs.Typing.Bodies.{GoodBody, body_scope, generics_in, outer_scope, with_parameters, with_result}
 use Rattle.au_judged_bodies.specs.Faults.{Noting, ◌>>=◌}
 use Rattle.au_judged_bodies.specs.InScope.{fixed_variable, with_variable}
 use Rattle.au_judged_bodies.specs.Lookups.{outcome_noted, written_means, written_type}
@@ -134,8 +133,8 @@ module _ (program : List ModuleParts) (place : ℕ) (generics : List (Constraine
 
   -- the parameters that the meaning sees are those that are written
   given_alike : (ps : List (Labelled Bytes)) (ofs : List Meaning) → AreMeant outer ps ofs
-      → map field_seen (map (field_under (types_at program place Body) (heads_of program)
-      (written_params generics) given)
+      → map field_seen (map (field_under (types_at program place Body) (heads_of program) (written_params generics)
+      given)
       ps) ≡ fields_given given ps ofs
   given_alike [] [] are = refl
   given_alike (p ∷ rest) (of ∷ others) are =
@@ -150,8 +149,8 @@ module _ (program : List ModuleParts) (place : ℕ) (generics : List (Constraine
   given_alike (p ∷ rest) [] are = absurd are
 
 module _ (program : List ModuleParts) (noted : List NotedParts) (body : BodyOf) (given : Given)
-    (owner : ClosedType → Option (List ℕ)) {K : Type 0} (known : Callables Instance K)
-    (may_hand : Meaning → Type 0) {V W : Type 0}
+    (owner : ClosedType → Option (List ℕ)) {K : Type 0} (known : Callables Instance K) (may_hand : Meaning → Type 0)
+    {V W : Type 0}
     (permits : Permits V W) (key : V) where
   pub body_runs : IsChecked program noted
       → (good : GoodBody (outside_of program body.place Body) body.generics body.header body.block)
@@ -164,9 +163,9 @@ module _ (program : List ModuleParts) (noted : List NotedParts) (body : BodyOf) 
       → InScope active (region_for (value_of name s) name))
       → TypesAreUsable active (parameters (generics_of program noted body given)) s
       → BesidesAll (view_of program noted body given) loose
-      (MayHold permits key (AreGoodHere program noted body.place (generics_of program noted body given) given)) may_hand
-      (first + length (parameters_under program noted given body)) good.scope (meaning.with_parameters first
-      (parameters_under program noted given body) []) body.block
+      (MayHold permits key (AreGoodHere program noted body.place (generics_of program noted body given) given))
+      may_hand (first + length (parameters_under program noted given body))
+      good.scope (meaning.with_parameters first (parameters_under program noted given body) []) body.block
       → BodyRuns program noted body given owner known permits key loose active first s names
   body_runs checked good constants calls counts loose active first s names stands regions within besides = record {
     ofs = begun.ofs;
@@ -185,15 +184,17 @@ module _ (program : List ModuleParts) (noted : List NotedParts) (body : BodyOf) 
       begun : BodyBegins (types_of program) owner (view_of program noted body given) known may_hand given
           (AreGoodHere program noted body.place (generics_of program noted body given) given) active first s names
           (outer_scope (outside_of program body.place Body) (generics_of program noted body given))
-          body.header.parameters good.scope
+          body.header.parameters
+          good.scope
       begun = body_begins (types_of program) owner (view_of program noted body given) known may_hand given
           (AreGoodHere program noted body.place (generics_of program noted body given) given)
           (outside_of program body.place Body) body.generics body.header good.scope good.formed
           (outside_known program
           (definitions_fit program checked.gathered checked.named checked.kept checked.declared)
           (declarations_fit program noted checked) body.place Body)
-          (round_fits program noted body.place (generics_of program noted body given) given owner known may_hand checked
-          constants calls) active first s names stands regions within
+          (round_fits program noted body.place (generics_of program noted body given) given owner known may_hand
+          checked constants
+          calls) active first s names stands regions within
 
       alike : parameters_under program noted given body ≡ fields_given given body.header.parameters begun.ofs
       alike = given_alike program body.place body.generics given body.header.parameters begun.ofs begun.are

@@ -104,7 +104,8 @@ one_is other e = absurd cc
 
 shape_is : (says : PlainDeclaration) → is_option_shape says ≡ true → IsOptionUnion says
 shape_is (union_type at n (p ∷ []) universes.AnyType (a ∷ b ∷ [])) e =
-    let its = and_parts (bytes_eq p.name.name its_name) (is_any p.universe && (is_bare a.fields && has_one b.fields)) e in
+    let its = and_parts (bytes_eq p.name.name its_name) (is_any p.universe && (is_bare a.fields && has_one b.fields))
+    e in
     let more = and_parts (is_any p.universe) (is_bare a.fields && has_one b.fields) its.1 in
     let fields = and_parts (is_bare a.fields) (has_one b.fields) more.1 in
     let one = one_is b.fields fields.1 in
@@ -180,14 +181,16 @@ module _ (program : List ModuleParts) (noted : List NotedParts) (checked : IsChe
     formed : is_well_formed program (named at args) ≡ true
     unfolding is_formed argument_formed all_formed universe_of
     formed =
-        ap (λ o. fit_row (fits (heads_of program) []) o args && all_formed (fits (heads_of program) []) (heads_of program) [] args) e
+        ap (λ o. fit_row (fits (heads_of program) []) o args && all_formed (fits (heads_of program) [])
+        (heads_of program) [] args) e
         ∙ ap (λ ps. all_fit (fits (heads_of program) []) ps args && true) option_over
 
     free : is_free (universe_of (heads_of program) [] (named at args)) ≡ true
     unfolding universe_of argument_universe argument_universes judged
     free =
         ap (λ o. is_free (of_row o (judged (argument_universes (heads_of program) [] args)))) e
-        ∙ ap (λ (h : Head). is_free (of_declaration h.universe (judged (argument_universes (heads_of program) [] args))))
+        ∙ ap (λ (h : Head). is_free (of_declaration h.universe
+        (judged (argument_universes (heads_of program) [] args))))
         head_is
 
     abbrev typed : List (Labelled Bytes) → Option (List Meaning)

@@ -147,7 +147,8 @@ module _ (program : List ModuleParts) (d : Standing) where
     parameters_taken (name ∷ names) [] kinds e typed = absurd (true≢false (sym e))
     parameters_taken (name ∷ names) (one ∷ rest) kinds e typed =
         by (all_typed program d over rest) (λ others its. parameters_taken names rest others both.1 its)
-        (sym (ap (λ o. followed (option_map (λ t. record { name = one.name.name; of = t }) o) (all_typed program d over rest))
+        (sym (ap (λ o. followed (option_map (λ t. record { name = one.name.name; of = t }) o)
+        (all_typed program d over rest))
         (means_so one.of (whole.parameter its_name) (the_parameter_is (over_class one.of) both.0))) ∙ typed)
       where
         parts : (bytes_eq one.name.name name ≡ true)
@@ -287,7 +288,8 @@ module _ (program : List ModuleParts) (noted : List NotedParts) (checked : IsChe
         by (Some head) is =
             subst (λ (t : Meaning). IsOptionOf (types_of program) (running s z (substituted put t)) (whole.integer of))
             (same_Some (whole.named its (arguments (of_type (whole.integer of)) no_arguments)) result
-            (sym (ap (λ sense. applied (Some sense) (one ∷ [])) (sense_here heads its head is) ∙ is_meant head is one means)
+            (sym (ap (λ sense. applied (Some sense) (one ∷ [])) (sense_here heads its head is) ∙ is_meant head is one
+            means)
             ∙ e))
             (option_is program noted checked its head is (text_is head is) of)
 
@@ -309,7 +311,8 @@ module _ (program : List ModuleParts) (noted : List NotedParts) (checked : IsChe
   unfolding meant all_given
   gives_option d at_place of_part (named name (types one no_types)) of e result means s z put =
       let parts = and_parts (bytes_eq name.name (codes "Option")) (is_kind of (over_class one)) e in
-      gives_so of (given_in d one) (means_so program d one (whole.integer of) (kind_is of (over_class one) parts.1)) result
+      gives_so of (given_in d one) (means_so program d one (whole.integer of) (kind_is of (over_class one) parts.1))
+      result
       (sym (ap (λ n. applied (sense_in d n) (given_in d one ∷ []))
       ((bytes_eq-Decides name.name (codes "Option")).0 parts.0)
       ∙ ap (λ o. applied (option_map (declared_sense heads) o) (given_in d one ∷ [])) (option_seen d at_place of_part))

@@ -123,7 +123,8 @@ module _ (program : List ModuleParts) (noted : List NotedParts) (checked : IsChe
       ap (λ (x : DeclAt). module_name program x.«module») f.says.number
       ∙ name_there program f.text.number.«module» f.m f.here
 
-  module _ (x : Entry) (among : Among x shipped) (same : f.m ≡ shipped_module x) (promised : IsPromised program f.m f.text) where
+  module _ (x : Entry) (among : Among x shipped) (same : f.m ≡ shipped_module x)
+      (promised : IsPromised program f.m f.text) where
     abbrev said : PlainDeclaration
     said = instance promised.at f.text.generics f.text.name f.text.of
 
@@ -156,7 +157,8 @@ module _ (program : List ModuleParts) (noted : List NotedParts) (checked : IsChe
       where
         judged_so : found_meant (judged [] [] f.names heads f.text.of) ≡ Some row.head
         judged_so =
-            subst (λ (gs : List Bounded). found_meant (judged [] (parameters gs) f.names heads f.text.of) ≡ Some row.head)
+            subst (λ (gs : List Bounded). found_meant (judged [] (parameters gs) f.names heads f.text.of) ≡ Some
+            row.head)
             bare f.says.head
 
         means : meant [] [] f.names heads f.text.of ≡ Some row.head
@@ -171,7 +173,8 @@ module _ (program : List ModuleParts) (noted : List NotedParts) (checked : IsChe
         sees =
             subst (λ (p : Part). visible_at program f.text.number.«module» p ≡ Some f.names) promised.part f.sees
 
-        numbered_so : (o : Option ℕ) → number_in x f.text.name.name ≡ o → numbered_fits x (head_closed f.text.of) o ≡ true
+        numbered_so : (o : Option ℕ) → number_in x f.text.name.name ≡ o → numbered_fits x (head_closed f.text.of) o
+            ≡ true
             → IsShippedClass program (module_name program row.instance.«module») t at
         numbered_so None e known = absurd (true≢false (sym known))
         numbered_so (Some number) e known =
@@ -182,7 +185,8 @@ module _ (program : List ModuleParts) (noted : List NotedParts) (checked : IsChe
 
             its_class : its ≡ at
             its_class =
-                class_numbered program f.text.number.«module» f.m f.here x same f.names sees heads f.text.name.name row.class
+                class_numbered program f.text.number.«module» f.m f.here x same f.names sees heads f.text.name.name
+                row.class
                 f.says.class number e
                 ∙ f.of_class
 
@@ -209,21 +213,24 @@ module _ (program : List ModuleParts) (noted : List NotedParts) (checked : IsChe
                       (ap (λ (y : ModuleParts). slice_get (declarations_in y.interface) number) same ∙ there);
                   over = parameter_is p both.0;
                   fit = ap (λ (y : ModuleParts). list_all (method_fits y.name t) methods) same
-                      ∙ ap (λ u. list_all (method_fits (joined x.tree.name) u) methods) (sym (type_is c closes)) ∙ both.1;
+                      ∙ ap (λ u. list_all (method_fits (joined x.tree.name) u) methods) (sym (type_is c closes)) ∙
+                      both.1;
                   option = more.1;
                 }
             declared_so o says closes there e = absurd cc
 
   -- A row whose module has a shipped call is of a shipped class.
   pub shipped_class : (declared : Bytes) (of : Option IntKind) (call : ShippedCall)
-      → prim_of (module_name program row.instance.«module») declared of ≡ Some call → IsShippedClass program (module_name program row.instance.«module») t at
+      → prim_of (module_name program row.instance.«module») declared of ≡ Some call → IsShippedClass program
+      (module_name program row.instance.«module») t at
   shipped_class declared of call e = by (module_is program checked.gathered f.m f.text.number.«module» f.here)
     where
       in_home : IsOfShipped f.m.name
       in_home = home_shipped f.m.name declared of call (ap (λ n. prim_of n declared of) (sym home_is) ∙ e)
 
       on : (x : Entry) → Among x shipped → f.m ≡ shipped_module x
-          → IsPromised program f.m f.text ⊎ IsDefined f.m f.text → IsShippedClass program (module_name program row.instance.«module») t at
+          → IsPromised program f.m f.text ⊎ IsDefined f.m f.text → IsShippedClass program
+          (module_name program row.instance.«module») t at
       on x among same (inl promised) = class_is x among same promised
       on x among same (inr defined) =
           absurd (none-some (instance_body defined.at f.text.generics f.text.name f.text.of defined.written)
@@ -231,7 +238,8 @@ module _ (program : List ModuleParts) (noted : List NotedParts) (checked : IsChe
 
       by : ((x : Entry) × Among x shipped × (f.m ≡ shipped_module x))
           ⊎ ((x : Entry) × Among x (own program noted checked) × (is_interface x.tree.part ≡ false)
-          × (f.m ≡ module_of (shipped ++ own program noted checked) x)) → IsShippedClass program (module_name program row.instance.«module») t at
+          × (f.m ≡ module_of (shipped ++ own program noted checked) x)) → IsShippedClass program
+          (module_name program row.instance.«module») t at
       by (inl (x, among, same)) = on x among same f.stands
       by (inr (x, among, isnt, same)) =
           absurd (own_named program noted checked x among

@@ -72,7 +72,8 @@ use Rattle.au_judged_programs.proofs.ShippedMethodTestLemmas.{the_parameter}
 -- ---- what is declared
 
 -- what is called has the parameters and the result that are written of it
-callable_has : (generics : List Bounded) (of : Option (Bytes × DeclAt)) (given : Option (List Typed)) (result : Option Meaning)
+callable_has : (generics : List Bounded) (of : Option (Bytes × DeclAt)) (given : Option (List Typed))
+    (result : Option Meaning)
     (c : Callable) → callable generics of given result ≡ Some c
     → (given ≡ Some c.parameters) × (result ≡ Some c.result) × (generics ≡ c.generics)
 callable_has generics of (Some given) (Some result) c e =
@@ -94,10 +95,12 @@ param_so other = []
 
 module _ (program : List ModuleParts) (noted : List NotedParts) (checked : IsChecked program noted) (place : ℕ)
     (params : List Parameter) (regions : List Bytes) (given : Given) (s : Bindings) (z : ℕ) (active : ℕ → Bool)
-    (runs : BodyRuns program params regions given s z active) (note : Note) (name : Bytes) (target : Target) (d : Standing)
+    (runs : BodyRuns program params regions given s z active) (note : Note) (name : Bytes) (target : Target)
+    (d : Standing)
     (called : Callable) (put : Bindings) (declared param : Bytes) (row : Row) (call : ShippedCall)
     (leading : called_of target.name d.says ≡ Some (a_method declared param))
-    (found_row : closed_row (rows_of program) (heads_of program) (closed_under given (substituted put (parameter param)))
+    (found_row : closed_row (rows_of program) (heads_of program)
+    (closed_under given (substituted put (parameter param)))
     target.at ≡ Some row)
     (shipped_so : prim_of (module_name program row.instance.«module») declared
     (kind_of (closed_under given (substituted put (parameter param)))) ≡ Some call)
@@ -115,7 +118,8 @@ module _ (program : List ModuleParts) (noted : List NotedParts) (checked : IsChe
   -- ---- what is called
 
   abbrev leads_to : ShippedCall → Option (Callee Instance)
-  leads_to one = lead_does program noted place (closed_under given note.of) (shipped_or (Some one) (method_at declared t row))
+  leads_to one = lead_does program noted place (closed_under given note.of)
+      (shipped_or (Some one) (method_at declared t row))
 
   sees : lead_does program noted place (closed_under given note.of) (call_leads program place given note name)
       ≡ leads_to here
@@ -137,7 +141,13 @@ module _ (program : List ModuleParts) (noted : List NotedParts) (checked : IsChe
 
   d_is : record { place = c.place; part = Interface; index = c.number; says = class c.pos c.name c.p c.methods } ≡ d
   d_is =
-      same_Some (record { place = c.place; part = Interface; index = c.number; says = class c.pos c.name c.p c.methods })
+      same_Some (record {
+        place = c.place;
+        part = Interface;
+        index = c.number;
+        says = class c.pos c.name c.p
+            c.methods;
+      })
       d (sym c.there ∙ found)
 
   at_place : d.place ≡ c.place
@@ -152,7 +162,8 @@ module _ (program : List ModuleParts) (noted : List NotedParts) (checked : IsChe
   -- ---- the method
 
   module _ (h : Header Bytes) (is : find (is_method target.name) c.methods ≡ Some h) (named : h.name.name ≡ declared)
-      (over : its_name ≡ param) (has : method_called program d target.at (written_parameter c.p) (Some h) ≡ Some called) where
+      (over : its_name ≡ param) (has : method_called program d target.at (written_parameter c.p) (Some h) ≡ Some
+      called) where
     abbrev bounds : List Bounded
     bounds = unconstrained the_parameter ∷ []
 
@@ -161,7 +172,8 @@ module _ (program : List ModuleParts) (noted : List NotedParts) (checked : IsChe
     its =
         callable_has bounds (Some (its_name, target.at)) (all_typed program d (the_parameter ∷ []) h.parameters)
         (meant_in program d (the_parameter ∷ []) h.result) called
-        (ap (λ (q : Parameter). by_header program d (unconstrained q ∷ []) (Some (q.name, target.at)) h) (sym c.over) ∙ has)
+        (ap (λ (q : Parameter). by_header program d (unconstrained q ∷ []) (Some (q.name, target.at)) h) (sym c.over)
+        ∙ has)
 
     fit : fits_some t h (Some here) ≡ true
     fit =
@@ -185,7 +197,11 @@ module _ (program : List ModuleParts) (noted : List NotedParts) (checked : IsChe
     value : (v : Meaning) × (value_of its_name put ≡ Some (of_type v))
     value =
         puts.fixes (whole.parameter its_name)
-        (record { lasting = refl; names = subst (λ (gs : List Bounded). IsTypeName (parameters gs) its_name) its.2 refl })
+        (record {
+          lasting = refl;
+          names = subst (λ (gs : List Bounded). IsTypeName (parameters gs) its_name) its.2
+              refl;
+        })
 
     closes : closed put_so ≡ Some t
     closes =
@@ -289,7 +305,8 @@ module _ (program : List ModuleParts) (noted : List NotedParts) (checked : IsChe
         k,
         kinds_are (integer k) shut refl (names_taken (prim.Convert to)) kinds,
         subst (λ (r : Meaning). IsOptionOf (types_of program) r (whole.integer to)) (ap (running s z) (sym of))
-            (gives_option program noted checked c.entry c.m c.same c.place c.here c.option d at_place of_part h.result to e
+            (gives_option program noted checked c.entry c.m c.same c.place c.here c.option d at_place of_part
+            h.result to e
             called.result its.1 s z put),
       );
     }
@@ -298,7 +315,8 @@ module _ (program : List ModuleParts) (noted : List NotedParts) (checked : IsChe
     seen : Seen
     seen = seen_with t here closes parts.1 sees taken.0 taken.1
 
-  pub shipped_method_seen : CallIsSeen (types_of program) (owner_of program) (view_under program noted place params given)
+  pub shipped_method_seen : CallIsSeen (types_of program) (owner_of program)
+      (view_under program noted place params given)
       (ways program noted) active s z note name called put
   shipped_method_seen = by (find (is_method target.name) c.methods) refl
       (ap (called_of target.name) says_is ∙ leading)

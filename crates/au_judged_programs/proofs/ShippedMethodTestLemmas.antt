@@ -69,7 +69,8 @@ sensed_is (declared at params) t e = absurd (none-some t e)
 sensed_is (a_class at) t e = absurd (none-some t e)
 
 -- it means this everywhere
-pub plain_is : (params : List Parameter) (visible : List (Bytes × DeclAt)) (heads : List (DeclAt × Head)) (t : WrittenType)
+pub plain_is : (params : List Parameter) (visible : List (Bytes × DeclAt)) (heads : List (DeclAt × Head))
+    (t : WrittenType)
     (m : Meaning) → plain_meant params t ≡ Some m → meant [] params visible heads t ≡ Some m
 unfolding meant all_given
 plain_is params visible heads (named name no_types) m e =
@@ -109,7 +110,8 @@ module _ (visible : List (Bytes × DeclAt)) (heads : List (DeclAt × Head)) wher
         as_region = region_of (sense_of [] [] visible heads second);
       } ∷ [])
 
-  span_is : (name first second : Bytes) → is_span name first second ≡ true → span_meant name first second ≡ Some whole.text
+  span_is : (name first second : Bytes) → is_span name first second ≡ true → span_meant name first second ≡ Some
+      whole.text
   span_is name first second e =
       let both = and_parts (bytes_eq name (codes "Span"))
       (bytes_eq first (codes "Nat8") && bytes_eq second (codes "Static")) e in

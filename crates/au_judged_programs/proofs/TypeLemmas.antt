@@ -182,7 +182,8 @@ module _ (program : List ModuleParts) (noted : List NotedParts) (checked : IsChe
       on d m found here one declared is (inl (x, among, same)) =
           in_shipped at head owner name d m plain_owner plain_name found here x among same one declared is text
       on d m found here one declared is (inr (x, among, isnt, same)) =
-          absurd (own_named program noted checked x among (of_shipped (joined x.tree.name) one.name owner name plain_owner plain_name known
+          absurd (own_named program noted checked x among (of_shipped (joined x.tree.name) one.name owner name
+          plain_owner plain_name known
           (ap (λ (y : ModuleParts). y.name ++ 58 ∷ one.name) (sym same) ∙ ap (λ (h : Head). h.text) (sym is) ∙ text)))
 
       by : (d : Standing) × (m : ModuleParts) × (standing_at program at ≡ Some d)

@@ -73,8 +73,8 @@ abbrev pub EntriesHoldWell : (program : List ModuleParts) (noted : List NotedPar
     → Permits (Key program noted) W → Type 0
 EntriesHoldWell program noted permits =
     IsChecked program noted → AreCovered program noted (anything (Key program noted)) permits
-    → (target : Target) → IsEntryHere program noted target
-    → (first : Instance → ℕ) (input : List ℕ) (ticks : ℕ)
+    → (target : Target)
+    → IsEntryHere program noted target → (first : Instance → ℕ) (input : List ℕ) (ticks : ℕ)
     → (key : Key program noted) × (key.one ≡ record { of = target; given = [] })
     × HoldsWhereCut (types_of program) (owner_of program) permits (key ∷ [])
     (mean (generic_functions program noted first) (record { of = target; given = [] }) input ticks)

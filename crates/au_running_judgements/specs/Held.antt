@@ -36,7 +36,7 @@ module _ (types : Types) (owner : ClosedType → Option (List ℕ)) {V W : Type 
   -- The store of a world is as it should be, for some types of the names of its frames, and what they hold is
   -- permitted in the ways in which the functions of the frames were called. The oldest frames are those of
   -- functions that were called in these ways.
-  pub record HoldsWell (w : World) : Type 0 where
+  pub record HoldsPermitted (w : World) : Type 0 where
     pub newer : List V
     pub acts : List Act
     pub frames : List Frame
@@ -47,7 +47,7 @@ module _ (types : Types) (owner : ClosedType → Option (List ℕ)) {V W : Type 
 
   -- A world is so where its run is cut off, and else as it should be there.
   abbrev pub IsCutSo : World → Type 0
-  IsCutSo w = IsCutWell owner w × HoldsWell w
+  IsCutSo w = IsCutWell owner w × HoldsPermitted w
 
   -- An action comes to something good, and where it is cut off, names hold what they may.
   abbrev pub GoodHeld : {A : Type 0} → (A → World → Type 0) → Out A → Type 0

@@ -18,7 +18,7 @@ use Rattle.au_safe_ships.specs.Entering.{EntersWell, LeavesWell}
 use Rattle.au_safe_ships.specs.Sound.{IsHomeOf}
 use Rattle.au_safe_ships.specs.Beginning.{ExitsWell, FinishesWell, IsExitOf, RootsComeWell, StartsWell}
 use Rattle.au_sound_blocks.specs.Blocks.{AllRun}
-use Rattle.au_sound_blocks.specs.Held.{GoodHeld, HoldsWell, Permits}
+use Rattle.au_sound_blocks.specs.Held.{GoodHeld, HoldsPermitted, Permits}
 use Rattle.au_sound_blocks.specs.Known.{AreActive, Callables, Calls}
 use Rattle.au_sound_blocks.specs.Safe.{AllWait}
 use Rattle.au_sound_blocks.specs.Steps.{StepsAreSafe}
@@ -73,7 +73,7 @@ pub record IsEntry (types : Types) (owner : ClosedType → Option (List ℕ)) {I
 abbrev pub HoldsWhereCut : (types : Types) → (ClosedType → Option (List ℕ)) → {V W : Type 0} → Permits V W
     → List V → Outcome → Type 0
 HoldsWhereCut types owner permits ways seen =
-    seen.ending ≡ running → HoldsWell types owner permits ways seen.world
+    seen.ending ≡ running → HoldsPermitted types owner permits ways seen.world
 
 -- A call in some way, from wherever its arguments are under way, comes to something good; and wherever it is
 -- cut off, its own frame lies on those that were there, and its names hold what they may in this way.

@@ -27,7 +27,8 @@ use Rattle.au_sound_blocks.specs.Steps.{StepsAreSafe}
 abbrev pub BodiesAreSafe : (types : Types) → (ClosedType → Option (List ℕ)) → {V W : Type 0}
     → Permits V W → {I T C K : Type 0} → View I T C → Callables I K → (I → List Value → Action Value) → Type 0
 BodiesAreSafe types owner {V} permits {T = T} {C = C} see known invoke =
-    StepsAreSafe types owner → (key : V) (ways : List V) → CallsSafe types owner permits (key ∷ ways) known invoke
+    StepsAreSafe types owner → (key : V) (ways : List V)
+    → CallsSafe types owner permits (key ∷ ways) known invoke
     → (loose : ℕ → Bool) (result : Meaning) (below : List Act) (base : Lying) (fs : List Frame)
     (sizes : List ℕ) (size : ℕ)
     → IsRunning sizes fs size → AllWait permits ways (is_active below) fs

@@ -28,7 +28,8 @@ abbrev pub ExpressionsAreSafe : (types : Types) → (ClosedType → Option (List
     → {V W : Type 0} → Permits V W → {I T C K : Type 0} → View I T C → Callables I K
     → (I → List Value → Action Value) → Type 0
 ExpressionsAreSafe types owner {V} permits {T = T} {C = C} see known invoke =
-    ActionsAreSafe types owner → (way : V) (ways : List V) → CallsSafe types owner permits (way ∷ ways) known invoke
+    ActionsAreSafe types owner → (way : V) (ways : List V)
+    → CallsSafe types owner permits (way ∷ ways) known invoke
     → (acts : List Act) (names : ℕ → Meaning) (fs : List Frame) (sizes : List ℕ) (size : ℕ)
     → IsRunning sizes fs size
     → AllWait permits ways (is_active acts) fs

@@ -40,8 +40,8 @@ AllWait permits (way ∷ ways) active (f ∷ fs) =
     Stands permits way active f.hold f.type × AllWait permits ways active fs
 AllWait permits ways active fs = ⊥
 
-module _ (types : Types) (owner : ClosedType → Option (List ℕ)) {V W : Type 0} (permits : Permits V W) (way : V)
-    (acts : List Act) (names : ℕ → Meaning)
+module _ (types : Types) (owner : ClosedType → Option (List ℕ)) {V W : Type 0} (permits : Permits V W)
+    (way : V) (acts : List Act) (names : ℕ → Meaning)
     (fs : List Frame) (sizes : List ℕ) (z : ℕ) where
   -- What an expression of the token z leaves of the running frame, where names stood so before it: a name
   -- is empty where it was consumed, and else stands as before, but for the token; and what is still to come
@@ -55,14 +55,16 @@ module _ (types : Types) (owner : ClosedType → Option (List ℕ)) {V W : Type 
       pub waits : Stands permits way (is_active acts) hold names
       pub state : IsIn types owner acts (frame hold names ∷ fs) sizes under w
 
--- Each call is safe that may be made where the frames are those of functions that were called in these ways: from wherever its arguments are under way, its result is, and borrows
--- lie as they did.
+-- Each call is safe that may be made where the frames are those of functions that were called in these ways:
+-- from wherever its arguments are under way, its result is, and borrows lie as they did; and names hold what
+-- they may wherever it is cut off.
 abbrev pub CallsSafe : Types → (ClosedType → Option (List ℕ)) → {V W : Type 0} → Permits V W
     → List V → {I K : Type 0} → Callables I K
     → (I → List Value → Action Value) → Type 0
 CallsSafe types owner permits ways {K = K} known invoke =
     (key : K) (acts : List Act) (fs : List Frame) (sizes : List ℕ) (made under : Made) (w : World) (ticks : ℕ)
-    → AreActive (is_active acts) (known.tokens key) → AllWait permits ways (is_active acts) fs → length sizes ≡ length fs
+    → AreActive (is_active acts) (known.tokens key) → AllWait permits ways (is_active acts) fs
+    → length sizes ≡ length fs
     → types_made made ≡ known.parameters key → IsIn types owner acts fs sizes (onto made under) w
     → GoodHeld types owner permits ways
     (λ (v : Value) n. IsIn types owner acts fs sizes ((v, known.result key) ∷ under) n

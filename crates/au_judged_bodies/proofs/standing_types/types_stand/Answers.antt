@@ -10,7 +10,8 @@ pub returns-clause-readers : goal.returns-clause-readers
 returns-clause-readers c = λ program t region. reader_free program t region
 
 pub returns-clause-regions : goal.returns-clause-regions
-returns-clause-regions c = λ heads params given s region z stands new. region_opens heads params given s region z stands new
+returns-clause-regions c = λ heads params given s region z stands new. region_opens heads params given s region z
+    stands new
 
 pub returns-clause-closing : goal.returns-clause-closing
 returns-clause-closing c = λ heads params regions given s z t stands known.

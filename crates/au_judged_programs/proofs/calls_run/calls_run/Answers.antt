@@ -7,4 +7,5 @@ returns g c =
     λ program trees place generics given calls key handed from fits others allows names active sc scope s z outside over
     stands holds frame.
     all_run program trees place generics given calls key (IsPermitted handed from) fits others allows names active sc
-    scope s z outside over stands holds frame
+    scope s z outside over
+    stands holds frame

@@ -5,4 +5,5 @@ use Rattle.au_judged_programs.proofs.sound_entries.accepted_entries_run_well.Goa
 
 pub returns : goal.returns
 returns c = λ files names all reads a target entry first input ticks.
-    entries_well (program_modules reads) a.noted (accepted_checked files names all reads a) target entry first input ticks
+    entries_well (program_modules reads) a.noted (accepted_checked files names all reads a) target entry first input
+    ticks
