@@ -1,5 +1,5 @@
 -- What names hold while an accepted program runs is listed.
-use Rattle.std.proofs.Common.{◌≡◌, ◌⊎◌, inl, inr, ℕ, List, [], ◌∷◌, Some, Ok, refl, ap, subst}
+use Rattle.std.proofs.Common.{◌≡◌, List, [], Some, Ok, refl, ap, subst}
 use Rattle.std.specs.Option.{option_map}
 use Rattle.std.proofs.lemmas.Option.{same_Some}
 use Rattle.au_base.specs.declared.kinds.IntKind.{IntKind}
@@ -7,22 +7,19 @@ use Rattle.au_syntax.specs.declared.expressions.BorrowMode.{BorrowMode}
 use Rattle.au_syntax.specs.declared.expressions.BorrowMode.TheVariants as mode
 use Rattle.au_syntax.specs.declared.modules.Part.TheVariants.{Body}
 use Rattle.au_syntax.specs.Plain.{Bytes}
-use Rattle.au_syntax.specs.Types.{Labelled, WrittenType}
+use Rattle.au_syntax.specs.Types.{WrittenType}
 use Rattle.au_types.specs.declared.parameters.Parameter.{Parameter}
 use Rattle.au_types.specs.declared.types.Region.{Region}
 use Rattle.au_types.specs.Meant.{meant}
-use Rattle.au_types.specs.Types as mean
 use Rattle.au_types.specs.Types.{Meaning, integer, reads, writes}
 use Rattle.au_matching.specs.Bindings.{Bindings}
 use Rattle.au_judged_types.specs.Bounds.{Bounded, parameters}
-use Rattle.au_judged_types.specs.Meanings.{written_params}
 use Rattle.au_type_texts.specs.Closing.{closed}
 use Rattle.au_type_texts.specs.Given.{Given, closed_under}
 use Rattle.au_type_texts.specs.Types as closed_types
 use Rattle.au_type_texts.specs.Types.{ClosedType}
 use Rattle.au_running_types.specs.Running.{region_running, running}
 use Rattle.au_modules.specs.Programs.{ModuleParts}
-use Rattle.au_names.specs.declared.targets.Target.{Target}
 use Rattle.au_names.specs.HeadsOf.{heads_of}
 use Rattle.au_names.proofs.AmongLemmas.{among}
 use Rattle.au_typing.specs.Bodies.{outer_scope}
@@ -34,17 +31,12 @@ use Rattle.au_typing.specs.Scopes.{Outside, Scope}
 use Rattle.au_typing.specs.Trees.{NotedParts}
 use Rattle.au_typing.specs.Written.{types_at}
 use Rattle.au_closing.specs.Bodies.{BodyOf}
-use Rattle.au_closing.specs.Instances.{Instance}
-use Rattle.au_meaning.specs.Worlds.{World}
-use Rattle.au_memory.specs.Forests.{empty}
-use Rattle.au_tables.specs.Tables.{types_of}
 use Rattle.au_owners.specs.Owners.{owner_of}
 use Rattle.au_accepted.specs.Programs.{program_modules}
 use Rattle.au_judged_bodies.specs.Covering.{Covers, MayHold}
 use Rattle.au_judged_bodies.specs.Held.{IsPermitted}
 use Rattle.au_judged_bodies.specs.Keys.{Key}
 use Rattle.au_judged_bodies.specs.KnownTypes.Known.{IsKnown}
-use Rattle.au_judged_bodies.specs.WrittenTypes.{types_in_block}
 use Rattle.au_judged_bodies.proofs.NotedLemmas.{written_known}
 use Rattle.au_judged_bodies.proofs.PieceLemmas.{behind_write}
 use Rattle.au_judged_bodies.proofs.StandingTypesStandLemmas.{known_closes}
@@ -63,7 +55,7 @@ use Rattle.au_caps_lists.specs.Bodies.{Bodied}
 use Rattle.au_caps_lists.specs.Holding.{Holds}
 use Rattle.au_caps_laws.specs.Births.{IsRunFor, run_as}
 use Rattle.au_caps_laws.specs.Held.{AcceptedCallsAreHeld, AcceptedEntriesAreListed, AcceptedRunsAreListed}
-use Rattle.au_caps_laws.specs.Held.{EachCallIsListed, EntriesAreListed, IsListed, Permit, RunsAreListed, permits}
+use Rattle.au_caps_laws.specs.Held.{EachCallIsListed, EntriesAreListed, IsListed, RunsAreListed, permits}
 use Rattle.au_caps_laws.specs.Reach.{ClosedReaches, IsReachedOrGiven, declared_in, meant_among}
 use Rattle.au_caps_laws.proofs.ReachLemmas.{parameters_held, variables_held}
 use Rattle.au_caps_laws.proofs.RunForLemmas.{run_there}

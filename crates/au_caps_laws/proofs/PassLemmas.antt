@@ -3,7 +3,7 @@ use Rattle.std.proofs.Common.{◌≡◌, inl, inr, ℕ, suc, true, List, [], ◌
 use Rattle.au_syntax.specs.declared.modules.Part.TheVariants.{Body}
 use Rattle.au_syntax.specs.Plain.{Bytes}
 use Rattle.au_syntax.specs.Types.{Labelled, WrittenType}
-use Rattle.au_types.specs.Types.{Meaning, integer, parameter, unit}
+use Rattle.au_types.specs.Types.{Meaning, integer, parameter}
 use Rattle.au_matching.specs.Bindings.{Bindings}
 use Rattle.au_matching.specs.Substituted.{substituted}
 use Rattle.au_matching.proofs.SubstitutedLemmas.{each_so}
