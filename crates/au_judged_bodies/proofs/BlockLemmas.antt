@@ -46,16 +46,14 @@ use Rattle.au_meaning.specs.Statements as meant
 use Rattle.au_meaning.specs.Statements.{fields_noted, fields_told, means_case}
 use Rattle.au_meaning.specs.Views.{Field, View}
 use Rattle.au_known_types.specs.Known.{IsKnownIn, ModeIsKnownIn}
-use Rattle.au_known_types.proofs.KnownLemmas.{integer_known, opened_known, reads_known, truth_known, writes_known}
-use Rattle.au_known_types.proofs.KnownLemmas.{writes_parts}
 use Rattle.au_known_types.proofs.NotedLemmas.{part_known, type_known, written_known}
 use Rattle.au_known_types.proofs.ScopeLemmas.{lasts}
-use Rattle.au_running_lives.specs.Blocks.{IsFine, IsWholeOf, Lends, Runs, RunsAll, RunsArms, RunsTests}
+use Rattle.au_running_lives.specs.Blocks.{IsWholeOf, Lends, Runs, RunsAll, RunsArms, RunsTests}
 use Rattle.au_running_lives.specs.Blocks.{AreBound, Either, IsRecordOf, through, with_types}
 use Rattle.au_safe_steps.specs.Orders.{AreApart}
-use Rattle.au_running_lives.specs.Expressions.{Borrows, IsNamed, IsOf, LooksInto, Reaches}
+use Rattle.au_running_lives.specs.Expressions.{IsOf}
 use Rattle.au_running_lives.specs.Held.{IsPermitted, Permits}
-use Rattle.au_running_lives.specs.Known.{Callables, InScope, with_token}
+use Rattle.au_running_lives.specs.Known.{Callables, with_token}
 use Rattle.au_running_lives.specs.Lives.{put}
 use Rattle.au_judged_bodies.specs.Frames.{RecordIsSeen, field_closed}
 use Rattle.au_judged_bodies.specs.TypedRunsLaws.{Keeps}
