@@ -1,5 +1,6 @@
 -- What is passed in the ways in which functions are called, and what is returned, is listed.
-use Rattle.std.proofs.Common.{◌≡◌, inl, inr, ℕ, suc, true, List, [], ◌∷◌, map, Option, None, Some, Contains, refl, sym, ap, subst}
+use Rattle.std.proofs.Common.{◌≡◌, inl, inr, ℕ, suc, true, List, [], ◌∷◌, map, Option, None, Some, Contains, refl}
+use Rattle.std.proofs.Common.{sym, ap, subst}
 use Rattle.au_syntax.specs.declared.modules.Part.TheVariants.{Body}
 use Rattle.au_syntax.specs.Plain.{Bytes}
 use Rattle.au_syntax.specs.Types.{Labelled, WrittenType}
@@ -62,7 +63,8 @@ use Rattle.au_sound.proofs.WireLemmas.{runs_are_safe}
 use Rattle.au_caps_lists.specs.Bodies.{Bodied, params_of}
 use Rattle.au_caps_lists.specs.Holding.{Hands, Holds}
 use Rattle.au_caps_laws.specs.Births.{run_as}
-use Rattle.au_caps_laws.specs.Passing.{AcceptedCallsAreListed, AreBoundedBy, AreHandedBy, CallsAreListed, IsBoundedBy, LetsPass}
+use Rattle.au_caps_laws.specs.Passing.{AcceptedCallsAreListed, AreBoundedBy, AreHandedBy, CallsAreListed, IsBoundedBy}
+use Rattle.au_caps_laws.specs.Passing.{LetsPass}
 use Rattle.au_caps_laws.specs.Reach.{ClosedReaches, IsReachedOrGiven, declared_in, meant_among}
 use Rattle.au_caps_laws.specs.Watching.{Watch, watched_at, watched_mean}
 use Rattle.au_caps_laws.proofs.AlikeLemmas.{IsOne, IsStuck, means_alike}

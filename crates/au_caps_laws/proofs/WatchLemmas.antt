@@ -1,5 +1,6 @@
 -- Calls are safe under a watch that lets pass what is of the types of parameters and results.
-use Rattle.std.proofs.Common.{◌≡◌, ℕ, zero, suc, Bool, true, List, [], ◌∷◌, Option, None, Some, length, refl, sym, subst}
+use Rattle.std.proofs.Common.{◌≡◌, ℕ, zero, suc, Bool, true, List, [], ◌∷◌, Option, None, Some, length, refl, sym}
+use Rattle.std.proofs.Common.{subst}
 use Rattle.au_effects.specs.Values.{root}
 use Rattle.au_type_texts.specs.Types.{ClosedType}
 use Rattle.au_types.specs.Types.{Meaning}

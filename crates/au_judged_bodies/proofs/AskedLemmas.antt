@@ -58,7 +58,8 @@ use Rattle.au_judged_bodies.proofs.CoverLemmas.{right_of, with_each, with_lent, 
 use Rattle.au_judged_bodies.specs.Kept as kept
 use Rattle.au_judged_bodies.specs.Lived.{loose_by, may_drop}
 use Rattle.au_judged_bodies.specs.Parts.{Each, EachArm, EachIn, EachTest}
-use Rattle.au_judged_bodies.proofs.MarkLemmas.{inner_new, left_new, neutral, neutral_all, neutral_binds, neutral_enclosed}
+use Rattle.au_judged_bodies.proofs.MarkLemmas.{inner_new, left_new, neutral, neutral_all, neutral_binds}
+use Rattle.au_judged_bodies.proofs.MarkLemmas.{neutral_enclosed}
 use Rattle.au_judged_bodies.proofs.MarkLemmas.{neutral_join, neutral_stays, neutral_tests, right_new, Stays}
 use Rattle.au_judged_bodies.proofs.NumberLemmas.{AreSorted, many, many_bound, many_inside, many_tests, moved}
 use Rattle.au_judged_bodies.proofs.NumberLemmas.{plain, plus_zero, sorted}
