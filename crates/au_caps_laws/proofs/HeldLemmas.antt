@@ -17,7 +17,6 @@ use Rattle.au_judged_types.specs.Bounds.{Bounded, parameters}
 use Rattle.au_type_texts.specs.Closing.{closed}
 use Rattle.au_type_texts.specs.Given.{Given, closed_under}
 use Rattle.au_type_texts.specs.Types as closed_types
-use Rattle.au_type_texts.specs.Types.{ClosedType}
 use Rattle.au_running_types.specs.Running.{region_running, running}
 use Rattle.au_modules.specs.Programs.{ModuleParts}
 use Rattle.au_names.specs.HeadsOf.{heads_of}

@@ -1,6 +1,6 @@
 -- Accepted programs are gathered of the shipped files and of parsed ones.
-use Rattle.std.proofs.Common.{◌≡◌, ◌⊎◌, inl, inr, ℕ, ◌+◌, suc, List, [], ◌∷◌, ◌++◌, length, map, refl, sym}
-use Rattle.std.proofs.Common.{ap, ◌∙◌, subst, arith}
+use Rattle.std.proofs.Common.{◌≡◌, ◌⊎◌, inl, inr, ℕ, ◌+◌, suc, List, [], ◌∷◌, ◌++◌, length, map, refl}
+use Rattle.std.proofs.Common.{ap, subst, arith}
 use Rattle.std.specs.Prelude.{◌<◌, ◌≤◌, Contains, IsTrue}
 use Rattle.au_base.specs.Outside.{Files}
 use Rattle.au_base.proofs.ListLemmas.{nothing_there, Contains-cases}

@@ -1,20 +1,15 @@
 -- Of a program that is gathered of shipped and parsed files declarations are those of their parts, and
 -- functions of modules that have no body are shipped.
-use Rattle.std.proofs.Common.{◌≡◌, ◌⊎◌, inl, inr, ℕ, List, [], Option, None, Some, refl, sym, ap, ◌∙◌, subst}
+use Rattle.std.proofs.Common.{◌≡◌, ◌⊎◌, inl, inr, ℕ, List, [], None, Some, sym, ap, ◌∙◌, subst}
 use Rattle.std.specs.Prelude.{IsTrue, slice_get, unwrap_or}
 use Rattle.std.specs.Option.{option_map}
 use Rattle.std.proofs.lemmas.Option.{none-some, same_Some}
-use Rattle.au_base.specs.declared.places.Pos.{Pos}
 use Rattle.au_shipped.specs.declared.prims.ShippedCall.{ShippedCall}
 use Rattle.au_shipped.specs.Calls.{prim_of}
 use Rattle.au_syntax.specs.declared.modules.Part.TheVariants.{Interface, Body}
 use Rattle.au_syntax.specs.Forms.{formed_declaration}
-use Rattle.au_syntax.specs.Modules.{Constrained, Header, function}
-use Rattle.au_syntax.specs.Plain.{Bytes, PlainDeclaration}
-use Rattle.au_types.specs.declared.types.DeclAt.{DeclAt}
 use Rattle.au_modules.specs.Programs.{ModuleParts}
 use Rattle.au_names.specs.Owned.{declarations_in}
-use Rattle.au_names.specs.Standing.{Standing, standing_at}
 use Rattle.au_closing.specs.Leading.{module_name}
 use Rattle.au_closing_laws.specs.Gathered.{IsGathered}
 use Rattle.au_closing_laws.specs.Premises.{AreOfParts, FunctionsAreShipped}

@@ -1,7 +1,7 @@
 -- The fields of a type that stands over type parameters stand over them.
-use Rattle.std.proofs.Common.{◌≡◌, ◌⊎◌, inl, inr, ℕ, Bool, true, false, ◌&&◌, cond, true≢false, List, [], ◌∷◌}
+use Rattle.std.proofs.Common.{◌≡◌, ◌⊎◌, inl, inr, ℕ, Bool, true, false, cond, true≢false, List, [], ◌∷◌}
 use Rattle.std.proofs.Common.{map, find, Option, None, Some, refl, sym, ap, ◌∙◌, subst}
-use Rattle.std.specs.Prelude.{IsTrue, slice_get, is_none, ◌||◌, ◌==◌}
+use Rattle.std.specs.Prelude.{slice_get}
 use Rattle.std.specs.Str.{bytes_eq}
 use Rattle.std.proofs.lemmas.Bool.{and_parts}
 use Rattle.std.proofs.lemmas.Option.{none-some, same_Some}
@@ -10,18 +10,16 @@ use Rattle.au_base.proofs.OptionLemmas.{map_some}
 use Rattle.au_syntax.specs.declared.declarations.Universe.{Universe}
 use Rattle.au_syntax.specs.declared.modules.Part.TheVariants.{Interface, Body}
 use Rattle.au_syntax.specs.Forms.{formed_declaration}
-use Rattle.au_syntax.specs.Modules.{InUniverse, constant, opaque_type, record_type, union_type, function}
-use Rattle.au_syntax.specs.Modules.{class, instance, constant_body, function_body, instance_body}
+use Rattle.au_syntax.specs.Modules.{InUniverse, opaque_type, record_type, union_type}
 use Rattle.au_syntax.specs.Plain.{Bytes, PlainDeclaration}
 use Rattle.au_types.specs.declared.headings.Head.{Head}
 use Rattle.au_types.specs.declared.parameters.Parameter.{Parameter}
 use Rattle.au_types.specs.declared.types.DeclAt.{DeclAt}
 use Rattle.au_types.specs.Rows.{head_of}
-use Rattle.au_types.specs.Types.{Meaning, Argument, Arguments, unit, truth, integer, text}
-use Rattle.au_types.specs.Types.{parameter as a_parameter, named, reads, writes, no_arguments, arguments}
+use Rattle.au_types.specs.Types.{Argument, Arguments}
+use Rattle.au_types.specs.Types.{named, no_arguments, arguments}
 use Rattle.au_types.specs.Universes.{universe_in}
-use Rattle.au_matching.specs.Bindings.{Bindings, value_of, with_pair}
-use Rattle.au_matching.specs.Substituted.{substituted}
+use Rattle.au_matching.specs.Bindings.{value_of}
 use Rattle.au_matching.proofs.BindingLemmas.{value_of-with}
 use Rattle.au_matching.specs.Fitting.{stand_in}
 use Rattle.au_matching.specs.Forming.{StandsOver, all_fit, all_formed, argument_formed, fit_row, fits_in_kind}
@@ -39,7 +37,7 @@ use Rattle.au_promises.specs.Fulfilled.{Agrees, Each, OfHeading, SameParameter}
 use Rattle.au_imports.specs.Good.{IsGood}
 use Rattle.au_imports.proofs.OpaqueLemmas.{opaque_defined}
 use Rattle.au_typing.specs.Scopes.{Typed}
-use Rattle.au_typing.specs.Insides.{fields_defined, fields_of, is_known, known_definition, known_standing}
+use Rattle.au_typing.specs.Insides.{fields_defined, is_known, known_definition, known_standing}
 use Rattle.au_typing.specs.Insides.{record_fields, typed_under, with_arguments}
 use Rattle.au_typing.specs.Written.{all_typed}
 use Rattle.au_closing_laws.specs.Premises.{AreOfParts}

@@ -1,11 +1,11 @@
 -- What holds of programs that are gathered of the shipped files and of parsed ones.
 use Rattle.std.proofs.Common.{◌≡◌, ◌⊎◌, inl, inr, ℕ, zero, suc, Bool, true, false, not, ◌&&◌, true≢false}
 use Rattle.std.proofs.Common.{List, [], ◌∷◌, ◌++◌, map, cond, find, Option, None, Some, refl, sym, ap, ◌∙◌}
-use Rattle.std.proofs.Common.{subst, arith}
-use Rattle.std.specs.Prelude.{◌<◌, Contains, IsTrue, filter, slice_get, is_some}
+use Rattle.std.proofs.Common.{subst}
+use Rattle.std.specs.Prelude.{filter, slice_get, is_some}
 use Rattle.std.specs.List.{list_all}
 use Rattle.std.specs.Str.{bytes_eq}
-use Rattle.std.proofs.lemmas.Bool.{and_parts, leb-false, leb-true, lt-leb, not-true}
+use Rattle.std.proofs.lemmas.Bool.{and_parts, lt-leb, not-true}
 use Rattle.std.proofs.lemmas.Option.{none-some, same_Some}
 use Rattle.au_base.specs.declared.places.Pos.{Pos}
 use Rattle.au_shipped.specs.declared.prims.ShippedCall.{ShippedCall}
@@ -14,16 +14,14 @@ use Rattle.au_shipped.specs.Shipped.{shipped_files}
 use Rattle.au_syntax.specs.declared.modules.Part.{Part}
 use Rattle.au_syntax.specs.declared.modules.Part.TheVariants.{Interface, Body}
 use Rattle.au_syntax.specs.Forms.{formed_declaration, formed_import, formed_module, some}
-use Rattle.au_syntax.specs.Modules.{Constrained, Header, function, constant, opaque_type, record_type}
-use Rattle.au_syntax.specs.Modules.{union_type, class, instance, constant_body, function_body, instance_body}
-use Rattle.au_syntax.specs.Plain.{Bytes, PlainDeclaration, PlainModule}
+use Rattle.au_syntax.specs.Modules.{Constrained, Header, function}
+use Rattle.au_syntax.specs.Plain.{Bytes, PlainDeclaration}
 use Rattle.au_syntax.specs.Sizes.{joined}
-use Rattle.au_modules.specs.Accepted.{IsOwn}
 use Rattle.au_modules.specs.Programs.{Entry, ModuleParts, first_shipped, is_interface, is_interface_of}
 use Rattle.au_modules.specs.Programs.{is_shipped, is_user_body, module_of, modules_of, shipped_module}
 use Rattle.au_names.proofs.AmongLemmas.{Among, among-append, among-append_left, among-append_right, contains}
 use Rattle.au_names.specs.Owned.{declarations_in}
-use Rattle.au_closing_laws.specs.Gathered.{IsGathered, IsParsed, entry_of}
+use Rattle.au_closing_laws.specs.Gathered.{IsGathered, entry_of}
 use Rattle.au_classes.proofs.ListLemmas.{found_passes}
 
 -- ---- lists

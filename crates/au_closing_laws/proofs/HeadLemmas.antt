@@ -1,8 +1,8 @@
 -- The row of a declared type has the type parameters that its declaration has, and what defines it.
 use Rattle.std.proofs.Common.{◌≡◌, ◌⊎◌, inl, inr, ℕ, suc, ◌+◌, Bool, true, false, not, cond, List, []}
-use Rattle.std.proofs.Common.{◌∷◌, ◌++◌, length, map, find, Option, None, Some, refl, sym, ap, ◌∙◌, subst}
+use Rattle.std.proofs.Common.{◌∷◌, ◌++◌, length, map, Option, None, Some, refl, sym, ap, ◌∙◌, subst}
 use Rattle.std.proofs.Common.{arith}
-use Rattle.std.specs.Prelude.{Contains, filter, slice_get}
+use Rattle.std.specs.Prelude.{slice_get}
 use Rattle.std.specs.List.{flat_map}
 use Rattle.std.specs.Map.{lookup}
 use Rattle.std.specs.Option.{option_map}
@@ -12,14 +12,14 @@ use Rattle.au_base.proofs.ListLemmas.{in_either}
 use Rattle.au_syntax.specs.declared.modules.Part.TheVariants.{Interface, Body}
 use Rattle.au_syntax.specs.Plain.{Bytes, PlainDeclaration}
 use Rattle.au_types.specs.DeclaredNames.{numbered, type_names}
-use Rattle.au_types.specs.Tables.{firsts, without}
+use Rattle.au_types.specs.Tables.{firsts}
 use Rattle.au_types.specs.declared.headings.Head.{Head}
 use Rattle.au_types.specs.declared.types.DeclAt.{DeclAt}
 use Rattle.au_types.specs.Rows.{head_of, same_place}
 use Rattle.au_types.proofs.SameLemmas.{place_is}
 use Rattle.au_modules.specs.Programs.{ModuleParts}
 use Rattle.au_names.specs.DeclaredTypes.{DeclaredType, type_declared}
-use Rattle.au_names.specs.HeadsOf.{counting, head_for, head_in, heads_of, parameter, row_of, row_under}
+use Rattle.au_names.specs.HeadsOf.{counting, head_for, heads_of, parameter, row_of, row_under}
 use Rattle.au_names.specs.HeadsOf.{rows_at, rows_from, rows_of, under_names}
 use Rattle.au_names.specs.Owned.{declarations_in, declarations_of}
 use Rattle.au_names.specs.Standing.{Standing, standing_at}

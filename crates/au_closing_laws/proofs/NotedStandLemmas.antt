@@ -1,7 +1,7 @@
 -- What the calls of a good block put stands over the type parameters in scope, where what is seen outside of
 -- functions stands.
-use Rattle.std.proofs.Common.{◌≡◌, ◌⊎◌, inl, inr, ℕ, Bool, true, false, cond, List, [], ◌∷◌, ◌++◌, Option}
-use Rattle.std.proofs.Common.{None, Some, Ok, Err, refl, sym, ap, ◌∙◌, subst}
+use Rattle.std.proofs.Common.{◌≡◌, ◌⊎◌, inl, inr, Bool, true, false, cond, List, [], ◌∷◌, ◌++◌, Option}
+use Rattle.std.proofs.Common.{None, Some, Ok, Err, refl, sym, ap, subst}
 use Rattle.std.specs.Prelude.{Contains, find, is_some, option_and_then, unwrap_or}
 use Rattle.std.specs.Option.{option_map, option_or}
 use Rattle.std.specs.Str.{bytes_eq}
@@ -32,8 +32,7 @@ use Rattle.au_types.specs.declared.types.Region.{Region}
 use Rattle.au_types.specs.declared.types.Region.TheVariants as regions
 use Rattle.au_types.specs.Types as mean
 use Rattle.au_types.specs.Types.{Meaning}
-use Rattle.au_types.specs.Universes.{universe_in}
-use Rattle.au_matching.specs.Substituted.{argument_substituted, substituted}
+use Rattle.au_matching.specs.Substituted.{argument_substituted}
 use Rattle.au_matching.proofs.SubstitutedLemmas.{stays}
 use Rattle.au_matching.specs.Forming.{StandsOver, argument_formed, fits_in_kind, is_formed}
 use Rattle.au_matching.specs.Universes.{of_parameter}
@@ -46,14 +45,13 @@ use Rattle.au_judged_types.specs.Bounds.{Bounded, parameters}
 use Rattle.au_names.specs.Importing.{given_name}
 use Rattle.au_typing.specs.Scopes.{Outside, Scope, Typed, Variable}
 use Rattle.au_typing.specs.Bare.{is_arithmetic, is_bare}
-use Rattle.au_typing.specs.Calls.{Shown}
 use Rattle.au_typing.specs.Faults.{Noting}
 use Rattle.au_typing.specs.Good.{AllGood, AllGoodIn, AllGoodLabelled, GoodBinary, GoodBorrow, GoodPath}
 use Rattle.au_typing.specs.Good.{PairedModes, count_of, items_of, labels_of, shown, values_of}
 use Rattle.au_typing.specs.Lookups.{IsPart, target_behind, field_type, outcome_noted, parameters_in}
 use Rattle.au_typing.specs.Lookups.{type_of_name, value_type, variable_of, variable_type, written_means}
 use Rattle.au_typing.specs.Lookups.{written_type}
-use Rattle.au_typing.specs.Notes.{Mode, Note, NotedArguments, NotedExpression, NotedExpressions, mode_of}
+use Rattle.au_typing.specs.Notes.{Mode, Note, NotedArguments, NotedExpression, NotedExpressions}
 use Rattle.au_typing.specs.Notes.{note_of, type_of}
 use Rattle.au_typing.specs.Rules.{is_logical}
 use Rattle.au_typing.specs.InScope.{after, fixed_variable, is_var, with_bound, with_reference, with_typed}
@@ -64,9 +62,9 @@ use Rattle.au_typing.specs.Trees.{NotedArms, NotedBranches, NotedStatement, Note
 use Rattle.au_closed_trees.specs.Calls.{calls_in, calls_in_all, calls_in_arguments, calls_in_arms}
 use Rattle.au_closed_trees.specs.Calls.{calls_in_block, calls_in_branches, calls_in_statement}
 use Rattle.au_closing_laws.specs.Targets.{Call}
-use Rattle.au_closing_laws.specs.Standing.{EachStand, OutsideStands}
-use Rattle.au_closing_laws.proofs.StandLemmas.{EachLasts, EachMode, ModeStands, Stands as StandsThere}
-use Rattle.au_closing_laws.proofs.StandLemmas.{TakesWell, ValuesStand, by_labels_well, call_stands}
+use Rattle.au_closing_laws.specs.Standing.{OutsideStands}
+use Rattle.au_closing_laws.proofs.StandLemmas.{EachLasts, EachMode, ModeStands}
+use Rattle.au_closing_laws.proofs.StandLemmas.{ValuesStand, by_labels_well, call_stands}
 use Rattle.au_closing_laws.proofs.StandLemmas.{in_order_well, named_stand}
 
 -- a call, as it is listed

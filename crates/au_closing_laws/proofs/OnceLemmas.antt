@@ -1,9 +1,9 @@
 -- What the rule on names that are declared again says of two declarations of one type in a module, and of
 -- the type parameters of one.
-use Rattle.std.proofs.Common.{◌≡◌, ◌⊎◌, inl, inr, ℕ, zero, suc, ◌+◌, ◌<◌, ◌≤◌, Bool, true, false, true≢false}
+use Rattle.std.proofs.Common.{◌≡◌, ◌⊎◌, inl, inr, ℕ, zero, suc, ◌+◌, ◌<◌, Bool, true, false, true≢false}
 use Rattle.std.proofs.Common.{List, [], ◌∷◌, ◌++◌, map, Option, None, Some, refl, sym, ap, ◌∙◌, subst}
 use Rattle.std.proofs.Common.{append_assoc, cond, arith}
-use Rattle.std.specs.Prelude.{Contains, IsTrue, slice_get}
+use Rattle.std.specs.Prelude.{slice_get}
 use Rattle.std.specs.List.{flat_map}
 use Rattle.std.specs.Str.{bytes_eq}
 use Rattle.std.proofs.lemmas.Grind.{flat_map-append}
@@ -14,8 +14,8 @@ use Rattle.au_base.specs.declared.places.Pos.{Pos}
 use Rattle.au_syntax.specs.declared.declarations.Universe.{Universe}
 use Rattle.au_syntax.specs.declared.modules.Part.{Part}
 use Rattle.au_syntax.specs.declared.modules.Part.TheVariants.{Interface, Body}
-use Rattle.au_syntax.specs.Modules.{InUniverse, constant, opaque_type, record_type, union_type, function}
-use Rattle.au_syntax.specs.Modules.{class, instance, constant_body, function_body, instance_body}
+use Rattle.au_syntax.specs.Modules.{InUniverse, opaque_type, record_type, union_type}
+use Rattle.au_syntax.specs.Modules.{class}
 use Rattle.au_syntax.specs.Plain.{Bytes, PlainDeclaration}
 use Rattle.au_types.specs.DeclaredNames.{type_names}
 use Rattle.au_types.specs.Universes.{universe_in}
@@ -32,8 +32,8 @@ use Rattle.au_rules.specs.declared.marks.Mark.TheVariants.{Opens, Closes, Declar
 use Rattle.au_rules.specs.declared.marks.Role.{Role}
 use Rattle.au_rules.specs.declared.marks.Role.TheVariants.{Local, Whole, Promise, Definition}
 use Rattle.au_rules.specs.Marks.{case_marks, enclosed, labelled_mark, marks, method_marks, parameter_mark, type_role}
-use Rattle.au_rules.specs.Once.{AreNew, IsDue, IsInBlock, IsNew, IsUnknown, NamesAreOnce, StaysOpen, closed}
-use Rattle.au_rules.specs.Once.{opened, text_of}
+use Rattle.au_rules.specs.Once.{AreNew, IsDue, IsNew, IsUnknown, NamesAreOnce, StaysOpen, closed}
+use Rattle.au_rules.specs.Once.{text_of}
 use Rattle.au_rules.specs.Outside.{outside}
 
 -- ---- lists

@@ -1,10 +1,10 @@
 -- What a part of a module sees outside of functions stands, where the types of records and unions do and the
 -- fields of types that stand.
-use Rattle.std.proofs.Common.{◌≡◌, ℕ, false, List, [], ◌∷◌, find, map, Option, None, Some, refl, sym, ap, ◌∙◌, subst}
+use Rattle.std.proofs.Common.{◌≡◌, ℕ, false, List, [], ◌∷◌, find, map, Option, None, Some, refl, sym, ap, subst}
 use Rattle.std.proofs.lemmas.Option.{none-some, same_Some}
 use Rattle.au_base.proofs.OptionLemmas.{map_some}
 use Rattle.au_syntax.specs.declared.modules.Part.{Part}
-use Rattle.au_syntax.specs.Modules.{Constrained, Header, Variant, constant, opaque_type, record_type}
+use Rattle.au_syntax.specs.Modules.{Header, Variant, constant, opaque_type, record_type}
 use Rattle.au_syntax.specs.Modules.{union_type, function, class, instance, constant_body, function_body}
 use Rattle.au_syntax.specs.Modules.{instance_body}
 use Rattle.au_syntax.specs.Plain.{Bytes, PlainDeclaration}

@@ -16,10 +16,9 @@ use Rattle.au_syntax.specs.declared.declarations.Universe.{Universe}
 use Rattle.au_syntax.specs.declared.declarations.Universe.TheVariants as universes
 use Rattle.au_syntax.specs.declared.modules.Part.{Part}
 use Rattle.au_syntax.specs.declared.modules.Part.TheVariants.{Interface, Body}
-use Rattle.au_syntax.specs.Modules.{InUniverse, constant, opaque_type, record_type, union_type, function}
-use Rattle.au_syntax.specs.Modules.{class, instance, constant_body, function_body, instance_body}
+use Rattle.au_syntax.specs.Modules.{InUniverse, opaque_type, record_type, union_type}
 use Rattle.au_syntax.specs.Plain.{Bytes, PlainDeclaration}
-use Rattle.au_types.specs.DeclaredNames.{given, names_in, numbered, type_names}
+use Rattle.au_types.specs.DeclaredNames.{given, names_in, type_names}
 use Rattle.au_types.specs.declared.spaces.Space.TheVariants.{Types}
 use Rattle.au_types.specs.Tables as tables
 use Rattle.au_types.specs.Tables.{firsts}
@@ -39,17 +38,15 @@ use Rattle.au_modules.specs.Programs.{ModuleParts}
 use Rattle.au_names.specs.declared.targets.Target.{Target}
 use Rattle.au_names.specs.DeclaredTypes.{DeclaredType, a_type, type_declared}
 use Rattle.au_names.specs.HeadsOf.{counting, head_for, heads_of, row_of, row_under, rows_at, rows_from, under_names}
-use Rattle.au_names.specs.Owned.{declarations_in, declarations_of, own, target, targets}
+use Rattle.au_names.specs.Owned.{declarations_in, declarations_of, target, targets}
 use Rattle.au_names.specs.Standing.{Standing, body_at, body_standing, defined_by, definition_for}
 use Rattle.au_names.specs.Standing.{definition_of, is_named, is_whole, module_standing, opaque_name}
 use Rattle.au_names.specs.Standing.{standing_at, standing_from, standing_in, whole_name}
 use Rattle.au_names.proofs.AmongLemmas.{Among, among-append_left, among-append_right, among-flat_map}
 use Rattle.au_names.proofs.AmongLemmas.{among-flat_map_from}
 use Rattle.au_names.proofs.DefinitionLemmas.{named as whole_is}
-use Rattle.au_rules.specs.Marks.{type_role}
 use Rattle.au_rules.specs.Once.{AllNamesAreOnce, AreNew}
-use Rattle.au_rules.specs.declared.marks.Role.{Role}
-use Rattle.au_rules.specs.declared.marks.Role.TheVariants.{Whole, Promise, Definition}
+use Rattle.au_rules.specs.declared.marks.Role.TheVariants.{Promise, Definition}
 use Rattle.au_imports.specs.Good.{IsGood}
 use Rattle.au_typing.specs.Called.{as_argument, as_arguments, owned, type_itself, type_number}
 use Rattle.au_closing_laws.specs.Premises.{AreOfParts}

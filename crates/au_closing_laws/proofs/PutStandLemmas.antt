@@ -1,41 +1,37 @@
 -- The types that calls put stand over the type parameters in scope, where what each body sees stands.
 use Rattle.std.proofs.Common.{◌≡◌, ℕ, List, [], ◌∷◌, Option, None, Some, Ok, Err, refl, sym, ap, ◌∙◌, subst}
-use Rattle.std.specs.Prelude.{Contains, unwrap_or}
+use Rattle.std.specs.Prelude.{unwrap_or}
 use Rattle.std.proofs.lemmas.Option.{none-some, same_Some}
-use Rattle.au_syntax.specs.declared.declarations.Universe.{Universe}
 use Rattle.au_syntax.specs.declared.modules.Part.TheVariants.{Body}
 use Rattle.au_syntax.specs.Modules.{Constrained, Header}
 use Rattle.au_syntax.specs.Plain.{Bytes}
 use Rattle.au_syntax.specs.Types.{Labelled, WrittenType}
-use Rattle.au_types.specs.Types.{Meaning, of_type, parameter}
+use Rattle.au_types.specs.Types.{of_type}
 use Rattle.au_matching.specs.Bindings.{value_of}
-use Rattle.au_matching.specs.Substituted.{substituted, type_for}
+use Rattle.au_matching.specs.Substituted.{type_for}
 use Rattle.au_matching.specs.Forming.{StandsOver, is_formed}
 use Rattle.au_judged_types.specs.Bounds.{Bounded, parameters}
 use Rattle.au_modules.specs.Programs.{ModuleParts}
-use Rattle.au_names.specs.declared.targets.Target.{Target}
 use Rattle.au_names.specs.HeadsOf.{heads_of}
 use Rattle.au_names.specs.Standing.{standing_at}
 use Rattle.au_rules.specs.Good.{AllDeclarationsAreGood}
-use Rattle.au_typing.specs.Scopes.{Outside, Scope, Variable}
+use Rattle.au_typing.specs.Scopes.{Outside, Scope}
 use Rattle.au_typing.specs.Outsides.{outside_of}
 use Rattle.au_typing.specs.Faults.{Noting}
-use Rattle.au_typing.specs.Lookups.{variable_of, written_type}
+use Rattle.au_typing.specs.Lookups.{written_type}
 use Rattle.au_typing.specs.Notes.{Note}
-use Rattle.au_typing.specs.Bodies.{GoodBody, body_scope, generics_in, outer_scope, with_parameters, with_result}
+use Rattle.au_typing.specs.Bodies.{body_scope, generics_in, outer_scope, with_parameters, with_result}
 use Rattle.au_typing.specs.InScope.{fixed_variable, with_variable}
 use Rattle.au_typing.specs.Trees.{NotedParts}
 use Rattle.au_typing.proofs.Steps.{bind_ok}
 use Rattle.au_accepted.specs.Faults.{IsDerived}
-use Rattle.au_closing.specs.Bodies.{BodyOf, body_of}
-use Rattle.au_closing_laws.specs.Calls.{IsGoodIn, outside_at, put_for}
+use Rattle.au_closing_laws.specs.Calls.{outside_at, put_for}
 use Rattle.au_closing_laws.specs.Premises.{PutTypesStand}
 use Rattle.au_closing_laws.specs.Standing.{OutsideStands}
-use Rattle.au_closing_laws.specs.Targets.{Call, IsTypeOf, bounds_of, calls_listed, scope_of}
 use Rattle.au_closing_laws.proofs.BodyLemmas.{good_standing}
 use Rattle.au_closing_laws.proofs.FitLemmas.{stands_for}
 use Rattle.au_closing_laws.proofs.GenericsLemmas.{bounds_meant}
-use Rattle.au_closing_laws.proofs.NotedStandLemmas.{IsFine, ScopeStands, in_block, variable_added, written_stands}
+use Rattle.au_closing_laws.proofs.NotedStandLemmas.{ScopeStands, in_block, variable_added, written_stands}
 
 -- ---- the scope of a body
 

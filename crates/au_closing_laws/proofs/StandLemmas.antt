@@ -1,8 +1,7 @@
 -- Values that stand over type parameters, by matching and by substituting; and what a good call puts.
-use Rattle.std.proofs.Common.{◌≡◌, ◌⊎◌, inl, inr, ℕ, Bool, true, false, ◌&&◌, cond, true≢false, List, [], ◌∷◌}
+use Rattle.std.proofs.Common.{◌≡◌, ℕ, Bool, true, false, cond, true≢false, List, [], ◌∷◌}
 use Rattle.std.proofs.Common.{length, map, Option, None, Some, refl, sym, ap, ◌∙◌, subst}
-use Rattle.std.specs.Prelude.{IsTrue, find, is_some, option_and_then, unwrap_or, if◌then◌else◌, ◌==◌}
-use Rattle.std.specs.List.{list_all}
+use Rattle.std.specs.Prelude.{find, is_some, option_and_then, unwrap_or, if◌then◌else◌, ◌==◌}
 use Rattle.std.specs.Option.{option_map}
 use Rattle.std.specs.Str.{bytes_eq}
 use Rattle.std.proofs.lemmas.Bool.{and_from, and_parts}
@@ -30,7 +29,7 @@ use Rattle.au_matching.specs.Universes.{of_parameter}
 use Rattle.au_matching.proofs.SubstitutingFormedLemmas.{formed_kept, kind_kept}
 use Rattle.au_matching.proofs.MatchedLemmas.{and_then_gave}
 use Rattle.au_judged_types.specs.Bounds.{parameters}
-use Rattle.au_typing.specs.Scopes.{Callable, Scope, Typed}
+use Rattle.au_typing.specs.Scopes.{Scope, Typed}
 use Rattle.au_typing.specs.Calls.{FirstStep, GoodCall, Passes, SecondStep, Shown, Taken, TakenBare, begun}
 use Rattle.au_typing.specs.Calls.{by_labels, each_is_named_once, first_unfixed, in_order, labelled_types}
 use Rattle.au_typing.specs.Lookups.{type_of_name}

@@ -1,6 +1,6 @@
 -- Where the instances of a program stand, and what their rows say.
-use Rattle.std.proofs.Common.{◌≡◌, ◌⊎◌, inl, inr, ℕ, zero, suc, ◌+◌, Bool, true, false, cond, List, [], ◌∷◌}
-use Rattle.std.proofs.Common.{◌++◌, length, map, find, Option, None, Some, refl, sym, ap, ◌∙◌, subst, arith}
+use Rattle.std.proofs.Common.{◌≡◌, ◌⊎◌, inl, inr, ℕ, suc, ◌+◌, Bool, true, false, List, [], ◌∷◌}
+use Rattle.std.proofs.Common.{length, find, Option, None, Some, refl, sym, ap, ◌∙◌, subst, arith}
 use Rattle.std.specs.Prelude.{Contains, slice_get, unwrap_or}
 use Rattle.std.specs.List.{position_from}
 use Rattle.std.specs.Option.{option_map}
@@ -8,9 +8,8 @@ use Rattle.std.proofs.lemmas.List.Elements.{Contains-append_cases}
 use Rattle.std.proofs.lemmas.Option.{none-some, same_Some, slice_get-map}
 use Rattle.au_base.specs.declared.places.Pos.{Pos}
 use Rattle.au_base.proofs.ListLemmas.{nothing_there, Contains-cases}
-use Rattle.au_syntax.specs.declared.modules.Part.{Part}
 use Rattle.au_syntax.specs.declared.modules.Part.TheVariants.{Interface, Body}
-use Rattle.au_syntax.specs.Modules.{Constrained, constant, opaque_type, record_type, union_type, function}
+use Rattle.au_syntax.specs.Modules.{constant, opaque_type, record_type, union_type, function}
 use Rattle.au_syntax.specs.Modules.{class, instance, constant_body, function_body, instance_body}
 use Rattle.au_syntax.specs.Plain.{Bytes, PlainDeclaration, PlainMethod}
 use Rattle.au_types.specs.declared.headings.Head.{Head}

@@ -37,7 +37,7 @@ use Rattle.au_accepted.specs.Faults.{IsDerived}
 use Rattle.au_closed_trees.specs.TypeNames.{is_region}
 use Rattle.au_closing.specs.Bodies.{BodyOf, body_of}
 use Rattle.au_closing.specs.Leading as leading
-use Rattle.au_closing.specs.Leading.{Called, a_function, a_maker, a_method, called_of, called_standing}
+use Rattle.au_closing.specs.Leading.{Called, a_maker, called_of, called_standing}
 use Rattle.au_closing_laws.specs.Targets.{Call, CallIsTyped, IsTyped, IsTypeOf, MethodIsTyped, NameIsTyped}
 use Rattle.au_closing_laws.specs.Targets.{calls_listed}
 use Rattle.au_closing_laws.specs.Calls.{IsMeant}

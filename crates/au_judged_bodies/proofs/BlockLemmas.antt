@@ -20,7 +20,7 @@ use Rattle.au_syntax.specs.Statements.{return_of, no_statements, statements, no_
 use Rattle.au_syntax.specs.Statements.{arms}
 use Rattle.au_syntax.specs.Types.{Bound, WrittenType}
 use Rattle.au_types.specs.Types as mean
-use Rattle.au_types.specs.Types.{Meaning, in_region, integer, reads, writes}
+use Rattle.au_types.specs.Types.{Meaning, integer, writes}
 use Rattle.au_types.proofs.SameLemmas.{same_is}
 use Rattle.au_matching.specs.Bindings.{Bindings}
 use Rattle.au_type_texts.specs.Given.{Given, closed_under}

@@ -68,7 +68,7 @@ use Rattle.au_tables.proofs.RunLemmas.{fields_running, written_fixed}
 use Rattle.au_closed_tables.specs.Closing.{AreClosed}
 use Rattle.au_closed_tables.proofs.CloseLemmas.{fields_closed}
 use Rattle.au_closed_meanings.specs.Generic as meaning
-use Rattle.au_closed_meanings.specs.Generic.{case_seen, field_seen, lead_does, view_under, with_names}
+use Rattle.au_closed_meanings.specs.Generic.{field_seen, lead_does, view_under, with_names}
 use Rattle.au_closed_meanings.specs.Surroundings.{field_names}
 use Rattle.au_meaning.specs.Views.{Callee, makes}
 use Rattle.au_known_types.specs.Known.{EachIsDeclared, IsKnown}

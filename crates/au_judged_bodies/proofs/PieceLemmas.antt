@@ -48,7 +48,6 @@ use Rattle.au_typing.specs.Statements.{Wants}
 use Rattle.au_typing.specs.Trees.{NotedStatements}
 use Rattle.au_meaning.specs.Expressions.{names_of, note_of as noted}
 use Rattle.au_meaning.specs.Names as meaning
-use Rattle.au_meaning.specs.Names.{names_in, names_in_block, names_in_tests}
 use Rattle.au_meaning.specs.Views.{View}
 use Rattle.au_known_types.specs.Known.{IsKnownIn, ModeIsKnownIn}
 use Rattle.au_known_types.proofs.KnownLemmas.{integer_known, opened_known, reads_known, truth_known}

@@ -9,7 +9,7 @@ use Rattle.au_ahead.proofs.ReadyLemmas.{step_ready}
 use Rattle.au_lives.specs.declared.lives.LifeKind.{LifeKind}
 use Rattle.au_lives.specs.declared.lives.LifeKind.TheVariants as kinds
 use Rattle.au_lives.specs.Lives as life
-use Rattle.au_lives.specs.Lives.{Fate, broken, going, if_live, if_spent, is_allowed, is_ordinary}
+use Rattle.au_lives.specs.Lives.{Fate, broken, going, is_allowed, is_ordinary}
 use Rattle.au_lives.specs.Lives.{is_untouched}
 use Rattle.au_lives.specs.Lives.{unless_hidden, verdict}
 use Rattle.au_lives.specs.Mentions.{Counts}

@@ -5,7 +5,7 @@ use Rattle.au_ahead.specs.Ahead.{Ahead, AheadAll, AheadArms, AheadBranches, Ends
 use Rattle.au_lending.specs.Ending.{freed}
 use Rattle.au_lives.specs.declared.lives.Sort.{Sort}
 use Rattle.au_lives.specs.Lives as life
-use Rattle.au_lives.specs.Lives.{GoodLife, held_from, opening_counts, unless_hidden, verdict}
+use Rattle.au_lives.specs.Lives.{held_from, opening_counts, unless_hidden, verdict}
 use Rattle.au_lives.specs.Mentions.{Counts, borrowed_by, one_look, one_write_borrow, where_named}
 use Rattle.au_lives.specs.Paths as paths
 use Rattle.au_lives.specs.Paths.{access_of, assignment, assignment_behind, bound_names, declared, declared_by}

@@ -56,7 +56,8 @@ use Rattle.au_meaning.specs.Views.{Field, Function}
 use Rattle.au_judged_programs.specs.CheckedChecked.{IsChecked}
 use Rattle.au_judged_bodies.specs.LivedBodiesBodies.{IsGoodFunction}
 use Rattle.au_judged_programs.specs.Known.{CheckedBodiesAreGood, IsKnownWell}
-use Rattle.au_judged_programs.proofs.CheckedBodiesPlaceLemmas.{good_of_body, spot_of_body}
+use Rattle.au_judged_programs.proofs.CheckedBodiesPlaceLemmas.{spot_of_body}
+use Rattle.au_judged_programs.proofs.GoodDeclarationLemmas.{good_of_body}
 use Rattle.au_judged_programs.proofs.TextLemmas.{IsNewThere, function_new, item_new, method_new}
 
 -- ---- methods

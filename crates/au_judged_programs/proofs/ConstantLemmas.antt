@@ -46,8 +46,9 @@ use Rattle.au_judged_bodies.specs.Surroundings.{literal_value}
 use Rattle.au_memory.specs.Shown.{IsPlain}
 use Rattle.au_judged_programs.specs.CheckedChecked.{IsChecked}
 use Rattle.au_judged_programs.specs.StandingConstantsStanding.{ConstantsOfProgramsStand}
-use Rattle.au_judged_programs.proofs.DefinedLemmas.{defined_fits, good_of_body, none_promised}
+use Rattle.au_judged_programs.proofs.DefinedLemmas.{defined_fits, none_promised}
 use Rattle.au_judged_programs.proofs.DefinedLemmas.{type_written}
+use Rattle.au_judged_programs.proofs.GoodDeclarationLemmas.{good_of_body}
 use Rattle.au_judged_programs.proofs.LiteralLemmas.{Fits, simple_runs, simple_whole}
 
 -- what is found has a place

@@ -1,15 +1,13 @@
 -- What defines a constant has a literal of the type that is written for it; and no shipped module has
 -- constants.
-use Rattle.std.proofs.Common.{◌≡◌, ◌⊎◌, inl, inr, ℕ, zero, suc, ◌+◌, Bool, true, false, true≢false, List}
-use Rattle.std.proofs.Common.{[], ◌∷◌, ◌++◌, map}
-use Rattle.std.proofs.Common.{Option, None, Some, refl, sym, ap, ◌∙◌, subst, arith, zero-add}
+use Rattle.std.proofs.Common.{◌≡◌, ◌⊎◌, inl, inr, ℕ, ◌+◌, Bool, true, false, true≢false, List}
+use Rattle.std.proofs.Common.{[], ◌++◌, map}
+use Rattle.std.proofs.Common.{Option, None, Some, refl, sym, ap, ◌∙◌, subst}
 use Rattle.std.specs.Prelude.{Ok, Err, slice_get}
 use Rattle.std.specs.List.{list_all}
 use Rattle.std.proofs.lemmas.Option.{none-some, same_Some}
 use Rattle.au_base.specs.declared.places.Pos.{Pos}
 use Rattle.au_shipped.specs.Shipped.{shipped_files}
-use Rattle.au_syntax.specs.declared.modules.Part.{Part}
-use Rattle.au_syntax.specs.declared.modules.Part.TheVariants.{Body}
 use Rattle.au_syntax.specs.Modules.{constant, opaque_type, record_type, union_type, function, class, instance}
 use Rattle.au_syntax.specs.Modules.{constant_body, function_body, instance_body}
 use Rattle.au_syntax.specs.Names.{Placed}
@@ -23,12 +21,12 @@ use Rattle.au_modules.specs.Programs.{Entry, ModuleParts, is_interface, module_o
 use Rattle.au_names.proofs.AmongLemmas.{Among}
 use Rattle.au_names.specs.Owned.{declarations_in}
 use Rattle.au_judged_bodies.specs.Typing.Bodies.{outer_scope}
-use Rattle.au_judged_bodies.specs.Derivations.{GoodDeclaration, GoodDeclarations, GoodModules, GoodPart}
+use Rattle.au_judged_bodies.specs.Derivations.{GoodDeclaration}
 use Rattle.au_judged_bodies.specs.Faults.{Noting}
 use Rattle.au_judged_bodies.specs.Lookups.{outcome_noted, written_means, written_type}
 use Rattle.au_judged_bodies.specs.Scopes.{Outside}
-use Rattle.au_judged_bodies.specs.Trees.{NotedDeclaration, NotedEntry, NotedParts, erase_declaration}
-use Rattle.au_judged_bodies.specs.Bodies.{body_at, body_of_parts, declared_in, value_in}
+use Rattle.au_judged_bodies.specs.Trees.{NotedDeclaration, erase_declaration}
+use Rattle.au_judged_bodies.specs.Bodies.{value_in}
 use Rattle.au_closing_laws.specs.Gathered.{IsGathered, entry_of}
 use Rattle.au_closing_laws.proofs.GatheredLemmas.{all_among, among_get, module_is}
 use Rattle.au_judged_programs.proofs.LiteralLemmas.{Fits, literal_fits}
@@ -76,44 +74,6 @@ defined_fits outside (class at n p hs) w t good written is = absurd (none-some w
 defined_fits outside (instance at gs n t) w of good written is = absurd (none-some w written)
 defined_fits outside (function_body at gs h b stop) w t good written is = absurd (none-some w written)
 defined_fits outside (instance_body at gs n t ms) w of good written is = absurd (none-some w written)
-
--- ---- good declarations
-
-good_at : (outside : ℕ → Part → Outside) (place k : ℕ) (noted : List NotedParts) (m : NotedParts)
-    → GoodModules outside place noted → slice_get noted k ≡ Some m
-    → GoodPart (outside (place + k) Body) m.body
-good_at outside place k [] m good e = absurd (none-some m e)
-good_at outside place zero (first ∷ rest) m good e =
-    let here : GoodPart (outside place Body) first.body = good.1 in
-    subst (λ n. GoodPart (outside n Body) m.body) (omega arith)
-    (subst (λ (x : NotedParts). GoodPart (outside place Body) x.body) (same_Some first m e) here)
-good_at outside place (suc k) (first ∷ rest) m good e =
-    let there = good_at outside (place + 1) k rest m good.2 e in
-    subst (λ n. GoodPart (outside n Body) m.body) (omega arith) there
-
-good_among : (outside : Outside) (ds : List NotedDeclaration) (index : ℕ) (d : NotedDeclaration)
-    → GoodDeclarations outside ds → slice_get ds index ≡ Some d → GoodDeclaration outside d
-good_among outside [] index d good e = absurd (none-some d e)
-good_among outside (first ∷ rest) zero d good e = subst (GoodDeclaration outside) (same_Some first d e) good.0
-good_among outside (first ∷ rest) (suc index) d good e = good_among outside rest index d good.1 e
-
--- a declaration with notes of the body of a module is good by what the body sees
-pub good_of_body : (outside : ℕ → Part → Outside) (noted : List NotedParts) → GoodModules outside 0 noted
-    → (place index : ℕ) (d : NotedDeclaration) → slice_get (body_at noted place) index ≡ Some d
-    → GoodDeclaration (outside place Body) d
-good_of_body outside noted good place index d e = by (slice_get noted place) refl e
-  where
-    within : (m : NotedParts) (o : Option NotedEntry) → GoodPart (outside place Body) o
-        → slice_get (declared_in o) index ≡ Some d → GoodDeclaration (outside place Body) d
-    within m None good e = absurd (none-some d e)
-    within m (Some entry) good e = good_among (outside place Body) entry.tree.declarations index d good e
-
-    by : (o : Option NotedParts) → slice_get noted place ≡ o → slice_get (body_of_parts o) index ≡ Some d
-        → GoodDeclaration (outside place Body) d
-    by None is e = absurd (none-some d e)
-    by (Some m) is e = within m m.body
-        (subst (λ n. GoodPart (outside n Body) m.body) (zero-add place)
-        (good_at outside 0 place noted m good is)) e
 
 -- ---- shipped modules
 

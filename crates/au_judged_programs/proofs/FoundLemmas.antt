@@ -10,18 +10,16 @@ use Rattle.std.proofs.lemmas.List.Folds.{find_at}
 use Rattle.std.proofs.lemmas.Option.{none-some, same_Some, slice_get_within}
 use Rattle.std.proofs.lemmas.Slice.Eq.{bytes_eq-Decides}
 use Rattle.au_base.specs.declared.places.Pos.{Pos}
-use Rattle.au_base.proofs.ListLemmas.{get_front, get_right, in_either}
+use Rattle.au_base.proofs.ListLemmas.{get_right, in_either}
 use Rattle.au_syntax.specs.declared.modules.Part.{Part}
 use Rattle.au_syntax.specs.declared.modules.Part.TheVariants.{Interface, Body}
 use Rattle.au_syntax.specs.Forms.{formed_declaration}
 use Rattle.au_syntax.specs.Modules.{Constrained, Header, Variant, constant, opaque_type, record_type, union_type, function}
 use Rattle.au_syntax.specs.Modules.{class, instance, constant_body, function_body, instance_body}
-use Rattle.au_syntax.specs.Plain.{Bytes, PlainDeclaration, PlainStatements}
+use Rattle.au_syntax.specs.Plain.{Bytes, PlainDeclaration}
 use Rattle.au_types.specs.DeclaredNames.{callable_names, given, names_in, numbered}
 use Rattle.au_types.specs.declared.spaces.Space.TheVariants.{Callables}
-use Rattle.au_types.specs.declared.types.DeclAt.{DeclAt}
 use Rattle.au_types.specs.Tables as tables
-use Rattle.au_types.specs.Tables.{firsts}
 use Rattle.au_types.proofs.TableLemmas.{find-firsts, find-front}
 use Rattle.au_modules.specs.Programs.{Entry, ModuleParts}
 use Rattle.au_modules.specs.Seen.{body_tree}
@@ -30,29 +28,29 @@ use Rattle.au_names.specs.Exporting.{declarations_seen}
 use Rattle.au_names.specs.HeadsOf.{heads_of}
 use Rattle.au_names.specs.Importing.{imported, place_of}
 use Rattle.au_names.specs.Meanings.{imports_in, meanings, part_of, pervasive}
-use Rattle.au_names.specs.Owned.{declarations_in, declarations_of, own, target as target_here, targets}
+use Rattle.au_names.specs.Owned.{declarations_in, own, target as target_here, targets}
 use Rattle.au_names.specs.Standing.{Standing, body_standing, module_standing, standing_at, standing_from, standing_in}
 use Rattle.au_names.proofs.AmongLemmas.{Among, among-append_left, among-append_right, among-flat_map_from}
 use Rattle.au_names.proofs.StandingLemmas.{from_length}
 use Rattle.au_promises.specs.Agreeing.{sight_of}
-use Rattle.au_promises.specs.Promises.{defines, function_defined, is_name}
+use Rattle.au_promises.specs.Promises.{defines}
 use Rattle.au_rules.specs.declared.marks.Kind.TheVariants as kinds
 use Rattle.au_rules.specs.declared.marks.Mark.{Mark}
-use Rattle.au_rules.specs.declared.marks.Mark.TheVariants.{Opens, Closes, Declares}
+use Rattle.au_rules.specs.declared.marks.Mark.TheVariants.{Closes, Declares}
 use Rattle.au_rules.specs.declared.marks.Role.{Role}
 use Rattle.au_rules.specs.declared.marks.Role.TheVariants.{Whole, Promise, Definition}
 use Rattle.au_rules.specs.Marks.{case_marks, enclosed, function_marks, generic_mark, labelled_mark, marks, method_marks}
 use Rattle.au_rules.specs.Marks.{block_marks, parameter_mark}
-use Rattle.au_rules.specs.declared.marks.Kind.TheVariants.{Fields, Values}
+use Rattle.au_rules.specs.declared.marks.Kind.TheVariants.{Values}
 use Rattle.au_rules.specs.Once.{AllNamesAreOnce}
 use Rattle.au_closing_laws.specs.Premises.{AreOfParts}
 use Rattle.au_closing_laws.proofs.FactLemmas.{parts_hold}
 use Rattle.au_closing_laws.proofs.GatheredLemmas.{among_map}
 use Rattle.au_closing_laws.proofs.MeantLemmas.{placed}
-use Rattle.au_closing_laws.proofs.OnceLemmas.{module_new, said, two_declared}
+use Rattle.au_closing_laws.proofs.OnceLemmas.{module_new, two_declared}
 use Rattle.au_closing_laws.proofs.ShippedMethodLemmas.{standing_get, stands_defined, stands_promised}
 use Rattle.au_closing_laws.proofs.OwnTypeLemmas.{ordered}
-use Rattle.au_judged_bodies.specs.Bodies.{BodyOf, body_of, defining_in, defining_index}
+use Rattle.au_judged_bodies.specs.Bodies.{defining_in}
 use Rattle.au_judged_bodies.specs.Entries.{Found, Function, begins, entry_of, form_at, form_of, formed, found_at, found_in}
 use Rattle.au_judged_bodies.specs.Entries.{function_among, function_at, function_in, meant_as, not_of_the_form, nowhere}
 use Rattle.au_judged_bodies.specs.Entries.{target_at}

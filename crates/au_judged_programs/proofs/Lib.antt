@@ -11,6 +11,7 @@ pub mod TextLemmas
 pub mod CalledBodiesBodyLemmas
 pub mod OwnLemmas
 pub mod ConstantLemmas
+pub mod GoodDeclarationLemmas
 pub mod DefinedLemmas
 pub mod LiteralLemmas
 pub mod JudgedLemmas

@@ -1,10 +1,10 @@
 -- Accepted programs are sound.
-use Rattle.std.proofs.Common.{◌≡◌, ℕ, Bool, List, Option, sym, ap, subst}
+use Rattle.std.proofs.Common.{◌≡◌, ℕ, Bool, List, Option, subst}
 use Rattle.au_base.specs.Outside.{Files}
 use Rattle.au_syntax.specs.Plain.{Bytes}
 use Rattle.au_type_texts.specs.Types.{ClosedType}
 use Rattle.au_names.specs.declared.targets.Target.{Target}
-use Rattle.au_meaning.specs.Worlds.{Ending, Outcome, World, exit, stuck}
+use Rattle.au_meaning.specs.Worlds.{Outcome}
 use Rattle.au_closed_meanings.specs.Numbers.{first_name}
 use Rattle.au_closing_laws.specs.Accepted.{AreAcceptedAs}
 use Rattle.au_closing_laws.specs.Programs.{program_modules}

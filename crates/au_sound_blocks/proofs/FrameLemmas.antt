@@ -5,7 +5,7 @@ use Rattle.std.proofs.lemmas.Bool.{eq-eqb, eqb-true, ne_eqb}
 use Rattle.std.proofs.lemmas.Bool.{cases_lt}
 use Rattle.au_types.specs.Types.{Meaning}
 use Rattle.au_memory.specs.Forests as forest
-use Rattle.au_memory.specs.Forests.{Hold, Made, empty, shut, watched}
+use Rattle.au_memory.specs.Forests.{Hold, Made, empty}
 use Rattle.au_lending.specs.Records.{types_made}
 use Rattle.au_sound_expressions.specs.Filling.{emptied_from, filled_from}
 use Rattle.au_sound_expressions.specs.Blocks.{Names, with_types}

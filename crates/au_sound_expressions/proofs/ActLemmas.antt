@@ -20,7 +20,7 @@ use Rattle.au_lending.specs.Seeing.{LeadsOn}
 use Rattle.au_borrows.specs.Orders.{Act, is_active}
 use Rattle.au_running_judgements.specs.Frames.{Frame}
 use Rattle.au_meaning.specs.Acts as meaning
-use Rattle.au_meaning.specs.Acts.{by_position, lends, looks, makes_value, refers, ships_call}
+use Rattle.au_meaning.specs.Acts.{lends, looks, makes_value, refers, ships_call}
 use Rattle.au_meaning.specs.Expressions as evaluator
 use Rattle.au_meaning.specs.Expressions.{calls, copies, looks_into, mentions, operand, reaches}
 use Rattle.au_meaning.specs.Names.{Variable, path_numbers}

@@ -2,7 +2,7 @@
 use Rattle.std.proofs.Common.{◌≡◌, ℕ, zero, suc, ◌+◌, ◌==◌, Bool, true, false, List, [], ◌∷◌}
 use Rattle.std.proofs.Common.{Option, Some, None, refl, sym, ap, subst, ◌∙◌, arith, if◌then◌else◌}
 use Rattle.std.proofs.lemmas.Bool.{eq-eqb, eqb-true}
-use Rattle.au_ahead.specs.Ready.{IsOpen, Ready, Stand}
+use Rattle.au_ahead.specs.Ready.{IsOpen, Ready}
 use Rattle.au_ahead.specs.Ready as stands
 use Rattle.au_ahead.proofs.ReadyLemmas as ready
 use Rattle.au_lives.specs.Mentions.{Counts, counts, one_consumption, one_read_borrow, one_write_borrow}

@@ -5,7 +5,7 @@ use Rattle.au_effects.specs.Numbers.{negated}
 use Rattle.au_effects.specs.Values as values
 use Rattle.au_type_texts.specs.Types.{ClosedType}
 use Rattle.au_types.specs.Types as type
-use Rattle.au_types.specs.Types.{Meaning, integer}
+use Rattle.au_types.specs.Types.{Meaning}
 use Rattle.au_lives.specs.Mentions.{Counts, plus}
 use Rattle.au_memory.specs.Forests.{Made}
 use Rattle.au_memory.specs.Loans.{Types}

@@ -13,7 +13,7 @@ use Rattle.au_running_judgements.specs.Closing.{freed_frame, freed_frames}
 use Rattle.au_running_judgements.specs.Known.{AreActive}
 use Rattle.au_running_judgements.specs.Lives.{Standing}
 use Rattle.au_running_judgements.specs.Held.{AllHeld, ArePermitted, IsPermitted, Permits}
-use Rattle.au_sound_expressions.specs.Safe.{AllWait, Stands, Waits, frame}
+use Rattle.au_sound_expressions.specs.Safe.{AllWait, Stands, Waits}
 use Rattle.au_sound_expressions.proofs.HoldLemmas.{waits_put}
 
 -- ---- a token that isn't active
