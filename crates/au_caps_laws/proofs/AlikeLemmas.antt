@@ -1,6 +1,6 @@
 -- A meaning in which some calls have no rule comes to what the meaning comes to, or no rule applies.
 use Rattle.std.proofs.Common.{◌≡◌, ◌⊎◌, inl, inr, ℕ, zero, suc, ◌+◌, ◌==◌, Bool, true, false, List, [], ◌∷◌, Option}
-use Rattle.std.proofs.Common.{None, Some, length, refl, subst, if◌then◌else◌, ℤ, pos, ◌+ℤ◌, int_lt}
+use Rattle.std.proofs.Common.{None, Some, option_map, length, refl, sym, subst, if◌then◌else◌, ℤ, pos, ◌+ℤ◌, int_lt}
 use Rattle.au_base.specs.declared.kinds.IntKind.{IntKind}
 use Rattle.au_effects.specs.Numbers.{number_in, same_kind, truth_in}
 use Rattle.au_effects.specs.Values as values
@@ -16,10 +16,12 @@ use Rattle.au_syntax.specs.Statements.{no_statements, statements, no_branches, b
 use Rattle.au_meaning.specs.Acts.{by_labels, by_position, closing, holds, tells_apart}
 use Rattle.au_meaning.specs.Expressions.{Operation, acts, alone, calls, chosen, computes, compares, eval, eval_all}
 use Rattle.au_meaning.specs.Expressions.{eval_named, is_and, is_or, joins, labelled, labels, note_of, operand}
-use Rattle.au_meaning.specs.Expressions.{operation_of, whole}
+use Rattle.au_meaning.specs.Expressions.{looks_into, mentions, names_of, operation_of, reaches, whole}
 use Rattle.au_meaning.specs.Meanings.{begun, call_at, enters, first_world, parameters_of, returned}
 use Rattle.au_meaning.specs.Meanings.{scope_of}
 use Rattle.au_meaning.specs.Names.{Scope, Variable, names_in, names_in_block, names_in_tests}
+use Rattle.au_meaning.specs.Names.{variable_of}
+use Rattle.au_meaning.specs.Statements.{assigns}
 use Rattle.au_meaning.specs.Statements.{Flow, after, and_then, both_numbers, either, empties}
 use Rattle.au_meaning.specs.Statements.{falls, for_turns, lending, means_case, ranges, returns, run, run_all, run_arms}
 use Rattle.au_meaning.specs.Statements.{run_block, run_tests, while_turns, with_counter, within}
@@ -27,6 +29,8 @@ use Rattle.au_meaning.specs.Ticks.{Action, Out, aborts, by_truth, cut, follows, 
 use Rattle.au_meaning.specs.Ticks.{pure, stuck, tick, ticked, where_true, ◌>>=◌, ◌>>◌}
 use Rattle.au_meaning.specs.Views.{Act, Callee, Field, Function, View, invokes, makes, ships}
 use Rattle.au_meaning.specs.Worlds.{Value, World}
+use Rattle.au_caps_laws.specs.Performing.{ActWatch, act_called, acted_at, acting}
+use Rattle.au_caps_laws.specs.Performing.{enters_looking, looked_at, with_callees}
 use Rattle.au_caps_laws.specs.Watching.{Watch, tested, watched_at}
 
 -- no rule applies
@@ -166,20 +170,53 @@ lending_alike opening m n one =
 
 -- ---- expressions and statements
 
-module _ {I T C : Type 0} (see : View I T C) (f g : I → List Value → Action Value)
-    (each : (one : I) (args : List Value) → Alike (f one args) (g one args)) where
-  acts_alike : (act : Act I) (args : List Value) → Alike (acts see f act args) (acts see g act args)
-  acts_alike (invokes one) args = each one args
-  acts_alike (makes of tag home) args = same _
-  acts_alike (ships prim born) args = same _
+-- what is in scope after a statement goes by notes and fields alone
+after_same : {I J T C : Type 0} (see : View I T C) (callee : T → C → Bytes → Option (Callee J)) (index : ℕ)
+    (s : Statement Bytes T C) (scope : Scope) → after (with_callees see callee) index s scope ≡ after see index s scope
+after_same see callee index (skip at) scope = refl
+after_same see callee index (declare at binding name t e) scope = refl
+after_same see callee index (destructure at binds e) scope = refl
+after_same see callee index (assign at x steps e) scope = refl
+after_same see callee index (assign_through at r steps e) scope = refl
+after_same see callee index (conditional at tests) scope = refl
+after_same see callee index (conditional_else at tests block) scope = refl
+after_same see callee index (case_of at e all) scope = refl
+after_same see callee index (while_loop at e block) scope = refl
+after_same see callee index (for_loop at name first last block) scope = refl
+after_same see callee index (borrow_in at access x r region block stop) scope = refl
+after_same see callee index (borrow_typed at r t mode x block stop) scope = refl
+after_same see callee index (discard at e) scope = refl
+after_same see callee index (return_of at e) scope = refl
 
-  calls_alike : (o : Option (Callee I)) (order : List Bytes → Option (List Value))
-      → Alike (calls see f o order) (calls see g o order)
-  calls_alike None order = same stuck
-  calls_alike (Some one) order = needing_alike (order one.parameters) _ _ (λ args. acts_alike one.act args)
+module _ {I J T C : Type 0} (see : View I T C) (callee : T → C → Bytes → Option (Callee J))
+    (f : J → List Value → Action Value) (g : I → List Value → Action Value)
+    (each : (note : T) (c : C) (name : Bytes) (order : List Bytes → Option (List Value))
+    → Alike (calls (with_callees see callee) f (callee note c name) order)
+    (calls see g (see.callee note c name) order)) where
+  -- the view in which other things are called
+  abbrev changed : View J T C
+  changed = with_callees see callee
+
+  mentions_alike : (note : T) (o : Option Variable) (name : Bytes)
+      → Alike (mentions changed note o name) (mentions see note o name)
+  mentions_alike note None name = same _
+  mentions_alike note (Some x) name = same _
+
+  looks_alike : (o : Option Variable) (names : List Bytes) → Alike (looks_into changed o names) (looks_into see o names)
+  looks_alike None names = same _
+  looks_alike (Some x) names = same _
+
+  reaches_alike : (o : Option Variable) (names : List Bytes) → Alike (reaches changed o names) (reaches see o names)
+  reaches_alike None names = same _
+  reaches_alike (Some x) names = same _
+
+  assigns_alike : (o : Option Variable) (names : List Bytes) (value : Value)
+      → Alike (assigns changed o names value) (assigns see o names value)
+  assigns_alike None names value = same _
+  assigns_alike (Some x) names value = same _
 
   joins_alike : (op : Operation) (note first : T) (a b c d : Action Value) → Alike a b → Alike c d
-      → Alike (joins see f op note first a c) (joins see g op note first b d)
+      → Alike (joins changed f op note first a c) (joins see g op note first b d)
   joins_alike is_and note first a b c d one two =
       then_alike a b _ _ one (λ x. tick_alike _ _ (chosen_alike c d _ _ x two (same _)))
   joins_alike is_or note first a b c d one two =
@@ -190,26 +227,30 @@ module _ {I T C : Type 0} (see : View I T C) (f g : I → List Value → Action 
       then_alike a b _ _ one (λ x. then_alike c d _ _ two (λ y. same _))
 
   mutual
-    eval_alike : (scope : Scope) (e : Expression Bytes T C) → Alike (eval see f scope e) (eval see g scope e)
+    eval_alike : (scope : Scope) (e : Expression Bytes T C) → Alike (eval changed f scope e) (eval see g scope e)
     eval_alike scope (number n l) = same _
     eval_alike scope (negative n l) = same _
     eval_alike scope (text n t) = same _
     eval_alike scope (truth n b) = same _
     eval_alike scope (nil n) = same _
-    eval_alike scope (path n x []) = same _
-    eval_alike scope (path n x (field ∷ fields)) = same _
-    eval_alike scope (arrow n r fields) = same _
+    eval_alike scope (path n x []) =
+        tick_alike _ _ (mentions_alike n.note (variable_of scope x.name) x.name)
+    eval_alike scope (path n x (field ∷ fields)) =
+        tick_alike _ _ (looks_alike (variable_of scope x.name) (names_of (field ∷ fields)))
+    eval_alike scope (arrow n r fields) =
+        tick_alike _ _ (then_alike _ _ _ _ (reaches_alike (variable_of scope r.name) (names_of fields)) (λ one. same _))
     eval_alike scope (call n h args c) =
         then_alike _ _ _ _ (all_alike scope args) (λ vs.
-        tick_alike _ _ (calls_alike (see.callee n.note c h.name) (by_position vs)))
+        tick_alike _ _ (each n.note c h.name (by_position vs)))
     eval_alike scope (named_call n h args c) =
         then_alike _ _ _ _ (named_alike scope args) (λ vs.
-        tick_alike _ _ (calls_alike (see.callee n.note c h.name) (by_labels (labelled (labels args) vs))))
+        tick_alike _ _ (each n.note c h.name (by_labels (labelled (labels args) vs))))
     eval_alike scope (parenthesized n e) = eval_alike scope e
     eval_alike scope (dereference n e) =
         then_alike _ _ _ _ (operand_alike (alone scope e) _ _ (eval_alike scope e)) (λ x. same _)
     eval_alike scope (borrow n mode x) = same _
-    eval_alike scope (borrow_part n r fields) = same _
+    eval_alike scope (borrow_part n r fields) =
+        tick_alike _ _ (then_alike _ _ _ _ (reaches_alike (variable_of scope r.name) (names_of fields)) (λ one. same _))
     eval_alike scope (binary n op a b) =
         joins_alike (operation_of op) n.note (note_of a) _ _ _ _ (eval_alike scope a) (eval_alike scope b)
     eval_alike scope (negation n e) = then_alike _ _ _ _ (eval_alike scope e) (λ x. same _)
@@ -218,35 +259,39 @@ module _ {I T C : Type 0} (see : View I T C) (f g : I → List Value → Action 
         then_alike _ _ _ _ (eval_alike scope c) (λ x.
         tick_alike _ _ (chosen_alike _ _ _ _ x (eval_alike scope a) (eval_alike scope b)))
 
-    all_alike : (scope : Scope) (es : Expressions Bytes T C) → Alike (eval_all see f scope es) (eval_all see g scope es)
+    all_alike : (scope : Scope) (es : Expressions Bytes T C) → Alike (eval_all changed f scope es) (eval_all see g scope es)
     all_alike scope no_expressions = same _
     all_alike scope (expressions e rest) =
         then_alike _ _ _ _ (eval_alike scope e) (λ v. then_alike _ _ _ _ (all_alike scope rest) (λ vs. same _))
 
     named_alike : (scope : Scope) (es : Arguments Bytes T C)
-        → Alike (eval_named see f scope es) (eval_named see g scope es)
+        → Alike (eval_named changed f scope es) (eval_named see g scope es)
     named_alike scope no_arguments = same _
     named_alike scope (arguments label e rest) =
         then_alike _ _ _ _ (eval_alike scope e) (λ v. then_alike _ _ _ _ (named_alike scope rest) (λ vs. same _))
 
-  whole_alike : (scope : Scope) (e : Expression Bytes T C) → Alike (whole see f scope e) (whole see g scope e)
+  whole_alike : (scope : Scope) (e : Expression Bytes T C) → Alike (whole changed f scope e) (whole see g scope e)
   whole_alike scope e = closing_alike _ _ (eval_alike scope e)
 
   module _ (depth : ℕ) where
     mutual
       run_alike : (index : ℕ) (scope : Scope) (s : Statement Bytes T C)
-          → Alike (run see f depth index scope s) (run see g depth index scope s)
+          → Alike (run changed f depth index scope s) (run see g depth index scope s)
       run_alike index scope (skip at) = same _
       run_alike index scope (declare at binding name t e) =
           then_alike _ _ _ _ (whole_alike scope e) (λ v. same _)
       run_alike index scope (destructure at binds e) = then_alike _ _ _ _ (whole_alike scope e) (λ v. same _)
-      run_alike index scope (assign at x steps e) = then_alike _ _ _ _ (whole_alike scope e) (λ v. same _)
-      run_alike index scope (assign_through at r steps e) = then_alike _ _ _ _ (whole_alike scope e) (λ v. same _)
+      run_alike index scope (assign at x steps e) =
+          then_alike _ _ _ _ (whole_alike scope e) (λ v.
+          tick_alike _ _ (assigns_alike (variable_of scope x.name) (names_of steps) v))
+      run_alike index scope (assign_through at r steps e) =
+          then_alike _ _ _ _ (whole_alike scope e) (λ v.
+          tick_alike _ _ (then_alike _ _ _ _ (reaches_alike (variable_of scope r.name) (names_of steps)) (λ one. same _)))
       run_alike index scope (conditional at tests) = tests_alike index scope tests (pure falls) (pure falls) (same _)
       run_alike index scope (conditional_else at tests block) =
-          let other = index + names_in_tests tests in
+          let number = index + names_in_tests tests in
           tests_alike index scope tests _ _
-          (within_alike other (names_in_block block) _ _ (statements_alike other scope block))
+          (within_alike number (names_in_block block) _ _ (statements_alike number scope block))
       run_alike index scope (case_of at e all) =
           then_alike _ _ _ _ (whole_alike scope e) (λ v.
           tick_alike _ _ (then_alike _ _ _ _ (same (tells_apart v)) (λ parts.
@@ -271,14 +316,17 @@ module _ {I T C : Type 0} (see : View I T C) (f g : I → List Value → Action 
       run_alike index scope (return_of at e) = then_alike _ _ _ _ (eval_alike scope e) (λ v. same _)
 
       statements_alike : (index : ℕ) (scope : Scope) (all : Statements Bytes T C)
-          → Alike (run_all see f depth index scope all) (run_all see g depth index scope all)
+          → Alike (run_all changed f depth index scope all) (run_all see g depth index scope all)
       statements_alike index scope no_statements = same _
       statements_alike index scope (statements s rest) =
           row_alike _ _ _ _ (run_alike index scope s)
-          (statements_alike (index + names_in s) (after see index s scope) rest)
+          (subst (λ (sc : Scope). Alike (run_all changed f depth (index + names_in s) sc rest)
+          (run_all see g depth (index + names_in s) (after see index s scope) rest))
+          (sym (after_same see callee index s scope))
+          (statements_alike (index + names_in s) (after see index s scope) rest))
 
       tests_alike : (index : ℕ) (scope : Scope) (tests : Branches Bytes T C) (k l : Action Flow) → Alike k l
-          → Alike (run_tests see f depth index scope tests k) (run_tests see g depth index scope tests l)
+          → Alike (run_tests changed f depth index scope tests k) (run_tests see g depth index scope tests l)
       tests_alike index scope no_branches k l last = last
       tests_alike index scope (branches e block rest) k l last =
           then_alike _ _ _ _ (whole_alike scope e) (λ v.
@@ -287,7 +335,7 @@ module _ {I T C : Type 0} (see : View I T C) (f g : I → List Value → Action 
           (tests_alike (index + names_in_block block) scope rest k l last)))
 
       arms_alike : (index : ℕ) (scope : Scope) (note : T) (all : Arms Bytes T C) (parts : ℕ × List Value)
-          → Alike (run_arms see f depth index scope note all parts) (run_arms see g depth index scope note all parts)
+          → Alike (run_arms changed f depth index scope note all parts) (run_arms see g depth index scope note all parts)
       arms_alike index scope note no_arms parts = same _
       arms_alike index scope note (arms at name binds block rest) parts =
           either_alike (means_case see note name.name parts.0) _ _ _ _
@@ -296,11 +344,23 @@ module _ {I T C : Type 0} (see : View I T C) (f g : I → List Value → Action 
           (arms_alike (index + (length binds + names_in_block block)) scope note rest parts)
 
     block_alike : (index : ℕ) (scope : Scope) (block : Statements Bytes T C)
-        → Alike (run_block see f depth index scope block) (run_block see g depth index scope block)
+        → Alike (run_block changed f depth index scope block) (run_block see g depth index scope block)
     block_alike index scope block =
         within_alike index (names_in_block block) _ _ (statements_alike index scope block)
 
 -- ---- calls
+
+module _ {I T C : Type 0} (see : View I T C) (f g : I → List Value → Action Value)
+    (each : (one : I) (args : List Value) → Alike (f one args) (g one args)) where
+  acts_alike : (act : Act I) (args : List Value) → Alike (acts see f act args) (acts see g act args)
+  acts_alike (invokes one) args = each one args
+  acts_alike (makes of tag home) args = same _
+  acts_alike (ships prim born) args = same _
+
+  calls_alike : (o : Option (Callee I)) (order : List Bytes → Option (List Value))
+      → Alike (calls see f o order) (calls see g o order)
+  calls_alike None order = same stuck
+  calls_alike (Some one) order = needing_alike (order one.parameters) _ _ (λ args. acts_alike one.act args)
 
 enters_alike : {I T C : Type 0} (f g : I → List Value → Action Value)
     → ((one : I) (args : List Value) → Alike (f one args) (g one args)) → (depth : ℕ) (o : Option (Function I T C))
@@ -311,41 +371,50 @@ enters_alike f g each depth (Some one) args =
     (and_alike _ _ _ _ (same _)
     (then_alike _ _ _ _
     (closing_alike _ _ (then_alike _ _ returned returned
-    (block_alike one.view f g each depth (one.first + length args) (scope_of one) one.body) (λ flow. same _)))
+    (block_alike one.view one.view.callee f g (λ note c name order.
+    calls_alike one.view f g each (one.view.callee note c name) order)
+    depth (one.first + length args) (scope_of one) one.body) (λ flow. same _)))
     (λ value. same _)))
 
+tested_alike : {A : Type 0} (test : World → Bool) (m n : Action A) → Alike m n → Alike (tested test m) n
+tested_alike test m n one w ticks = by (test w)
+  where
+    by : (b : Bool) → IsOne (where_true b m w ticks) (n w ticks)
+    by true = one w ticks
+    by false = inr tt
+
+-- so an action is whose value is tested
+behind_alike : {A : Type 0} (test : A → World → Bool) (out other : Out A) → IsOne out other
+    → IsOne (follows out (λ a. tested (test a) (pure a))) other
+unfolding follows
+behind_alike {A} test out other (inl is) = subst (λ o. IsOne (follows out (λ a. tested (test a) (pure a))) o) is
+    (by out)
+  where
+    at : (a : A) (w : World) (left : ℕ) (b : Bool) → IsOne (where_true b (pure a) w left) (gives a w left)
+    at a w left true = inl refl
+    at a w left false = inr tt
+
+    by : (o : Out A) → IsOne (follows o (λ a. tested (test a) (pure a))) o
+    by (gives a w left) = at a w left (test a w)
+    by (aborts fault w left) = inl refl
+    by (cut w) = inl refl
+    by (no_rule w left) = inl refl
+behind_alike {A} test out other (inr is) = inr (by out is)
+  where
+    by : (o : Out A) → IsStuck o → IsStuck (follows o (λ a. tested (test a) (pure a)))
+    by (gives a w left) none = absurd none
+    by (aborts fault w left) none = absurd none
+    by (cut w) none = absurd none
+    by (no_rule w left) none = tt
+
+begun_alike : (fields : List Field) (f g : List Value → Action Value)
+    → ((args : List Value) → Alike (f args) (g args))
+    → Alike (begun fields f) (begun fields g)
+begun_alike [] f g each = each []
+begun_alike (p ∷ []) f g each = and_alike _ _ _ _ (same _) (each (values.root 0 ∷ []))
+begun_alike (p ∷ q ∷ more) f g each = same stuck
+
 module _ {I T C : Type 0} (functions : I → Option (Function I T C)) (watch : Watch I) where
-  tested_alike : {A : Type 0} (test : World → Bool) (m n : Action A) → Alike m n → Alike (tested test m) n
-  tested_alike test m n one w ticks = by (test w)
-    where
-      by : (b : Bool) → IsOne (where_true b m w ticks) (n w ticks)
-      by true = one w ticks
-      by false = inr tt
-
-  -- so an action is whose value is tested
-  behind_alike : {A : Type 0} (test : A → World → Bool) (out other : Out A) → IsOne out other
-      → IsOne (follows out (λ a. tested (test a) (pure a))) other
-  unfolding follows
-  behind_alike {A} test out other (inl is) = subst (λ o. IsOne (follows out (λ a. tested (test a) (pure a))) o) is
-      (by out)
-    where
-      at : (a : A) (w : World) (left : ℕ) (b : Bool) → IsOne (where_true b (pure a) w left) (gives a w left)
-      at a w left true = inl refl
-      at a w left false = inr tt
-
-      by : (o : Out A) → IsOne (follows o (λ a. tested (test a) (pure a))) o
-      by (gives a w left) = at a w left (test a w)
-      by (aborts fault w left) = inl refl
-      by (cut w) = inl refl
-      by (no_rule w left) = inl refl
-  behind_alike {A} test out other (inr is) = inr (by out is)
-    where
-      by : (o : Out A) → IsStuck o → IsStuck (follows o (λ a. tested (test a) (pure a)))
-      by (gives a w left) none = absurd none
-      by (aborts fault w left) none = absurd none
-      by (cut w) none = absurd none
-      by (no_rule w left) none = tt
-
   watched_alike : (depth : ℕ) (caller : Option I) (one : I) (args : List Value)
       → Alike (watched_at watch functions depth caller one args) (call_at functions depth one args)
   unfolding watched_at call_at
@@ -359,13 +428,6 @@ module _ {I T C : Type 0} (functions : I → Option (Function I T C)) (watch : W
       (enters_alike (watched_at watch functions depth (Some one)) (call_at functions depth)
       (λ other values. watched_alike depth (Some one) other values) depth (functions one) args) w ticks)
 
-  begun_alike : (fields : List Field) (f g : List Value → Action Value)
-      → ((args : List Value) → Alike (f args) (g args))
-      → Alike (begun fields f) (begun fields g)
-  begun_alike [] f g each = each []
-  begun_alike (p ∷ []) f g each = and_alike _ _ _ _ (same _) (each (values.root 0 ∷ []))
-  begun_alike (p ∷ q ∷ more) f g each = same stuck
-
   -- what a program does under a watch is what it does, or it is stuck
   pub means_alike : (entry : I) (input : List ℕ) (ticks : ℕ)
       → IsOne
@@ -374,4 +436,54 @@ module _ {I T C : Type 0} (functions : I → Option (Function I T C)) (watch : W
       (begun (parameters_of (functions entry)) (call_at functions (suc ticks) entry) (first_world input) ticks)
   means_alike entry input ticks =
       begun_alike (parameters_of (functions entry)) _ _ (λ args. watched_alike (suc ticks) None entry args)
+      (first_world input) ticks
+
+-- ---- calls of which each is looked at
+
+module _ {I T C : Type 0} (functions : I → Option (Function I T C)) (watch : ActWatch I) where
+  looked_alike : (see : View I T C) (caller : I) (f g : I → List Value → Action Value)
+      → ((one : I) (args : List Value) → Alike (f one args) (g one args)) → (o : Option (Callee I))
+      (order : List Bytes → Option (List Value))
+      → Alike (calls (acting see) (looked_at watch see caller f) (option_map act_called o) order) (calls see g o order)
+  looked_alike see caller f g each None order = same stuck
+  looked_alike see caller f g each (Some one) order =
+      needing_alike (order one.parameters) _ _ (λ args.
+      tested_alike (watch.passed (Some caller) one.act args) _ _ (acts_alike see f g each one.act args))
+
+  looking_alike : (caller : I) (f g : I → List Value → Action Value)
+      → ((one : I) (args : List Value) → Alike (f one args) (g one args)) → (depth : ℕ) (o : Option (Function I T C))
+      (args : List Value) → Alike (enters_looking watch caller f depth o args) (enters g depth o args)
+  looking_alike caller f g each depth None args = same stuck
+  looking_alike caller f g each depth (Some one) args =
+      where_alike (length args == length one.parameters) _ _
+      (and_alike _ _ _ _ (same _)
+      (then_alike _ _ _ _
+      (closing_alike _ _ (then_alike _ _ returned returned
+      (block_alike one.view (λ note c name. option_map act_called (one.view.callee note c name))
+      (looked_at watch one.view caller f) g (λ note c name order.
+      looked_alike one.view caller f g each (one.view.callee note c name) order)
+      depth (one.first + length args) (scope_of one) one.body) (λ flow. same _)))
+      (λ value. same _)))
+
+  acted_alike : (depth : ℕ) (one : I) (args : List Value)
+      → Alike (acted_at watch functions depth one args) (call_at functions depth one args)
+  unfolding acted_at call_at
+  acted_alike zero one args w ticks = inl refl
+  acted_alike (suc depth) one args w ticks =
+      behind_alike (watch.returned one)
+      (enters_looking watch one (acted_at watch functions depth) depth (functions one) args w ticks)
+      (enters (call_at functions depth) depth (functions one) args w ticks)
+      (looking_alike one (acted_at watch functions depth) (call_at functions depth)
+      (λ other values. acted_alike depth other values) depth (functions one) args w ticks)
+
+  -- what a program does under a watch of all calls is what it does, or it is stuck
+  pub acted_means : (entry : I) (input : List ℕ) (ticks : ℕ)
+      → IsOne
+      (begun (parameters_of (functions entry))
+      (λ args. tested (watch.passed None (invokes entry) args) (acted_at watch functions (suc ticks) entry args))
+      (first_world input) ticks)
+      (begun (parameters_of (functions entry)) (call_at functions (suc ticks) entry) (first_world input) ticks)
+  acted_means entry input ticks =
+      begun_alike (parameters_of (functions entry)) _ _ (λ args.
+      tested_alike (watch.passed None (invokes entry) args) _ _ (acted_alike (suc ticks) entry args))
       (first_world input) ticks

@@ -10,3 +10,4 @@ pub mod Reach
 pub mod Held
 pub mod Watching
 pub mod Passing
+pub mod Performing
