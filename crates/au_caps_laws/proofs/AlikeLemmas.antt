@@ -259,7 +259,8 @@ module _ {I J T C : Type 0} (see : View I T C) (callee : T → C → Bytes → O
         then_alike _ _ _ _ (eval_alike scope c) (λ x.
         tick_alike _ _ (chosen_alike _ _ _ _ x (eval_alike scope a) (eval_alike scope b)))
 
-    all_alike : (scope : Scope) (es : Expressions Bytes T C) → Alike (eval_all changed f scope es) (eval_all see g scope es)
+    all_alike : (scope : Scope) (es : Expressions Bytes T C)
+        → Alike (eval_all changed f scope es) (eval_all see g scope es)
     all_alike scope no_expressions = same _
     all_alike scope (expressions e rest) =
         then_alike _ _ _ _ (eval_alike scope e) (λ v. then_alike _ _ _ _ (all_alike scope rest) (λ vs. same _))
@@ -286,7 +287,8 @@ module _ {I J T C : Type 0} (see : View I T C) (callee : T → C → Bytes → O
           tick_alike _ _ (assigns_alike (variable_of scope x.name) (names_of steps) v))
       run_alike index scope (assign_through at r steps e) =
           then_alike _ _ _ _ (whole_alike scope e) (λ v.
-          tick_alike _ _ (then_alike _ _ _ _ (reaches_alike (variable_of scope r.name) (names_of steps)) (λ one. same _)))
+          tick_alike _ _
+          (then_alike _ _ _ _ (reaches_alike (variable_of scope r.name) (names_of steps)) (λ one. same _)))
       run_alike index scope (conditional at tests) = tests_alike index scope tests (pure falls) (pure falls) (same _)
       run_alike index scope (conditional_else at tests block) =
           let number = index + names_in_tests tests in
@@ -335,7 +337,8 @@ module _ {I J T C : Type 0} (see : View I T C) (callee : T → C → Bytes → O
           (tests_alike (index + names_in_block block) scope rest k l last)))
 
       arms_alike : (index : ℕ) (scope : Scope) (note : T) (all : Arms Bytes T C) (parts : ℕ × List Value)
-          → Alike (run_arms changed f depth index scope note all parts) (run_arms see g depth index scope note all parts)
+          → Alike (run_arms changed f depth index scope note all parts)
+          (run_arms see g depth index scope note all parts)
       arms_alike index scope note no_arms parts = same _
       arms_alike index scope note (arms at name binds block rest) parts =
           either_alike (means_case see note name.name parts.0) _ _ _ _

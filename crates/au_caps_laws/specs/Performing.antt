@@ -12,7 +12,8 @@ use Rattle.au_caps_laws.specs.Watching.{tested}
 -- ---- views in which other things are called
 
 -- a view in which names call something else, and all else is seen as before
-abbrev pub with_callees : {I J T C : Type 0} → View I T C → (T → C → Bytes → Option (Callee J)) → View J T C
+abbrev pub with_callees : {I J T C : Type 0} → View I T C → (T → C → Bytes → Option (Callee J))
+    → View J T C
 with_callees see callee = record {
   type_of = see.type_of;
   is_free = see.is_free;
@@ -36,16 +37,16 @@ acting_function f = record { view = acting f.view; parameters = f.parameters; fi
 
 -- ---- runs under a watch of all calls
 
--- A watch of all calls: a test of what is passed (a precondition), by the function that makes the call, unless
--- the run begins with it, by what the call does, the arguments and the world in which it is made; and a test
--- of what functions return (a postcondition), by the function, the value and the world then.
+-- A watch of all calls: a test of what is passed (a precondition), by the function that makes the call,
+-- unless the run begins with it, by what the call does, the arguments and the world in which it is made; and
+-- a test of what functions return (a postcondition), by the function, the value and the world then.
 pub record ActWatch (I : Type 0) : Type 0 where
   pub passed : Option I → Act I → List Value → World → Bool
   pub returned : I → Value → World → Bool
 
 -- what a call does that a function makes, where what is passed to it passes
-abbrev pub looked_at : {I T C : Type 0} → ActWatch I → View I T C → I → (I → List Value → Action Value) → Act I
-    → List Value → Action Value
+abbrev pub looked_at : {I T C : Type 0} → ActWatch I → View I T C → I → (I → List Value → Action Value)
+    → Act I → List Value → Action Value
 looked_at watch see caller invoke act args =
     tested (watch.passed (Some caller) act args) (acts see invoke act args)
 
@@ -71,5 +72,6 @@ abbrev pub acted_mean : {I T C : Type 0} → ActWatch I → (I → Option (Funct
     → Outcome
 acted_mean watch functions entry input ticks =
     seen ticks (begun (parameters_of (functions entry))
-    (λ args. tested (watch.passed None (invokes entry) args) (acted_at watch functions (suc ticks) entry args))
+    (λ args. tested (watch.passed None (invokes entry) args)
+    (acted_at watch functions (suc ticks) entry args))
     (first_world input) ticks)

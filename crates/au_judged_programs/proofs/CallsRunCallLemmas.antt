@@ -184,7 +184,7 @@ module _ (program : List ModuleParts) (trees : List NotedParts) (place : ℕ) (g
           by_says (constant_body at n t v) is e = absurd (none-some good.called e)
           by_says (instance_body at gs n t ms) is e = absurd (none-some good.called e)
 
-        call_seen : Seen
+        pub call_seen : Seen
         call_seen = by_target (find name (seen_at Callables program place Body)) refl good.is_called
           where
             by_found : (target : Target) → find name (seen_at Callables program place Body) ≡ Some target

@@ -25,7 +25,7 @@ use Rattle.au_written_types.specs.Written.{IsRegionName}
 use Rattle.au_modules.specs.Programs.{ModuleParts}
 use Rattle.au_names.specs.HeadsOf.{heads_of}
 use Rattle.au_names.proofs.AmongLemmas.{Among, contains}
-use Rattle.au_judged_bodies.specs.Typing.Bodies.{outer_scope}
+use Rattle.au_judged_bodies.specs.Typing.Bodies.{generics_in, outer_scope}
 use Rattle.au_judged_bodies.specs.Lookups.{is_free_in, parameters_in, written_type}
 use Rattle.au_judged_bodies.specs.Notes.{Note}
 use Rattle.au_judged_bodies.specs.Outsides.{outside_of}
@@ -34,7 +34,7 @@ use Rattle.au_judged_bodies.specs.Trees.{NotedParts}
 use Rattle.au_judged_bodies.specs.Written.{types_at}
 use Rattle.au_judged_bodies.specs.ClosedTrees.Parts.{field_under}
 use Rattle.au_meaning.specs.Meanings.{scope_of}
-use Rattle.au_meaning.specs.Views.{Function}
+use Rattle.au_meaning.specs.Views.{Function, View}
 use Rattle.au_judged_bodies.specs.Blocks.{AreFine, MayDrop, MayRun, RunsAll, with_types}
 use Rattle.au_judged_bodies.specs.Held.{IsPermitted, Permits}
 use Rattle.au_judged_bodies.specs.Covering.{Covers, MayHold}
@@ -54,8 +54,11 @@ use Rattle.au_judged_bodies.specs.Bodies.{BodyOf}
 use Rattle.au_judged_bodies.specs.Generic.{field_seen, function_under, generic_functions, view_under}
 use Rattle.au_judged_bodies.specs.Instances.{Instance}
 use Rattle.au_judged_programs.proofs.ConstantLemmas.{constants_of_programs_stand}
-use Rattle.au_judged_programs.specs.RunningBodiesBodies.{BodyRuns, generics_of, view_of}
-use Rattle.au_judged_programs.proofs.RunningBodiesBodyLemmas.{body_runs, meant_so, params_alike}
+use Rattle.au_judged_programs.specs.RunningBodiesBodies.{BodyRuns, generics_of}
+use Rattle.au_judged_programs.proofs.RunningBodiesBodyLemmas.{meant_so, params_alike, seen_runs}
+use Rattle.au_judged_programs.proofs.RoundLemmas.{round_fits}
+use Rattle.au_judged_bodies.specs.Rounds.{RoundFits}
+use Rattle.au_judged_bodies.specs.Said.{TellsFree}
 use Rattle.au_judged_bodies.specs.Keys.{Key, meant_in_body, meant_or_unit, ways, written_running}
 use Rattle.au_judged_bodies.specs.LivedBodiesBodies.{IsGoodFunction, sorts_in}
 use Rattle.au_judged_bodies.specs.Lived.{loose_by}
@@ -171,20 +174,45 @@ module _ (program : List ModuleParts) (noted : List NotedParts) (owner : ClosedT
 
   -- ---- what its names may hold
 
-  module _ {W E H : Type 0} (permits : Permits (Key program noted) W) (allowed : Calls (Key program noted) E)
+  -- It is seen in some view, for its type parameters, in which its notes say what is Free, and called in this
+  -- way among others.
+  module _ {I K W E H : Type 0} (see : List Parameter → View I Note (Unit {0}))
+      (tells : TellsFree (see (written_params key.body.generics))
+      (outer_scope outside (generics_in outside key.body.generics)))
+      (permits : Permits K W) (known : Callables I K) (calls : Calls K E) (way : K)
       (handed : Permits (Key program noted) H)
       (covers : Covers
-      (MayHold permits key (AreGoodHere program noted key.body.place generics given)) (IsPermitted handed key) outside
+      (MayHold permits way (AreGoodHere program noted key.body.place generics given)) (IsPermitted handed key) outside
       generics labels key.body.block) where
     -- what may be called from here
-    abbrev known : Callables Instance ((one : E) × (allowed.from one ≡ key))
-    known = callees (ways program noted) allowed key
+    abbrev inner : Callables I ((one : E) × (calls.from one ≡ way))
+    inner = callees known calls way
+
+    -- the function as it is seen
+    abbrev seen_function : Function I Note (Unit {0})
+    seen_function = record {
+      view = see (written_params key.body.generics);
+      parameters = function.parameters;
+      first = function.first;
+      body = function.body;
+    }
+
+    abbrev good_seen : IsGoodFunction seen_function outside key.body.generics key.body.header
+    good_seen = record {
+      body = good.0.body;
+      parameters = good.0.parameters;
+      tells = tells;
+      lives = good.0.lives;
+      foreign = good.0.foreign;
+      before = good.0.before;
+      new = good.0.new;
+    }
 
     abbrev may_hold : Meaning → Type 0
-    may_hold = MayHold permits key (AreGoodHere program noted key.body.place generics given)
+    may_hold = MayHold permits way (AreGoodHere program noted key.body.place generics given)
 
     abbrev Fine : ℕ → List Meaning → Type 0
-    Fine number kinds = AreFine (types_of program) loose permits key number kinds
+    Fine number kinds = AreFine (types_of program) loose permits way number kinds
 
     fine : (number : ℕ) (ps : List (Labelled Bytes)) (ofs : List Meaning)
         → ((p : Labelled Bytes) → Among p ps → Among p labels) → AreMeant outer ps ofs
@@ -204,60 +232,85 @@ module _ (program : List ModuleParts) (noted : List NotedParts) (owner : ClosedT
 
     -- ---- the whole judgement
 
-    besides : BesidesAll (view_of program noted key.body given) loose may_hold (IsPermitted handed key)
+    besides : BesidesAll (see (parameters generics)) loose may_hold (IsPermitted handed key)
         (function.first + length function.parameters)
         good.0.body.scope (scope_of function) key.body.block
     besides =
-        subst (λ (ps : List Parameter). BesidesAll (view_under program noted key.body.place ps given) loose may_hold
+        subst (λ (ps : List Parameter). BesidesAll (see ps) loose may_hold
         (IsPermitted handed key)
         (function.first + length function.parameters) good.0.body.scope (scope_of function) key.body.block) (sym alike)
-        (bodies_asked function may_hold (IsPermitted handed key) outside key.body.generics key.body.header good.0
-        good.1 covers)
+        (bodies_asked seen_function may_hold (IsPermitted handed key) outside key.body.generics key.body.header
+        good_seen good.1 covers)
 
-    module _ (calls : CallsRunHere program noted key.body.place generics given owner known (IsPermitted handed key))
+    -- what is known round its body fits, and the way is one of its own
+    module _ (round : RoundFits (types_of program) owner (see (parameters generics)) inner (IsPermitted handed key)
+        outside generics given (AreGoodHere program noted key.body.place generics given))
+        (takes : known.parameters way ≡ (ways program noted).parameters key)
+        (gives : known.result way ≡ (ways program noted).result key) (opens : known.tokens way ≡ key.tokens)
       where
         runs_at : (active : ℕ → Bool) → AreActive active key.tokens
-            → BodyRuns program noted key.body given owner known permits key loose active (first key.one) key.s
-            (λ k. unit)
+            → BodyRuns program noted key.body given owner (see (parameters generics)) inner permits way loose active
+            (first key.one) key.s (λ k. unit)
         runs_at active are =
-            body_runs program noted key.body given owner known (IsPermitted handed key) permits key checked good.0.body
-            (constants_of_programs_stand program noted checked key.body.place generics given) calls
+            seen_runs program noted key.body given owner (see (parameters generics)) inner (IsPermitted handed key)
+            permits way checked good.0.body round
             (λ kind. covers.integers kind key.s (stands, key.holds)) loose active
             (first key.one) key.s (λ k. unit) (stands, key.holds) (opened active are) (within active are) besides
 
         abbrev Run : (ℕ → Bool) → List Parameter → List Meaning → Meaning → Type 0
         Run active ps kinds result =
-            RunsAll (types_of program) owner (view_under program noted key.body.place ps given) known result
-            loose permits key active (function.first + length function.parameters) (scope_of function) key.body.block
+            RunsAll (types_of program) owner (see ps) inner result
+            loose permits way active (function.first + length function.parameters) (scope_of function) key.body.block
             (with_types function.first kinds (λ k. unit))
 
-        runs : (active : ℕ → Bool) → AreActive active key.tokens
-            → Run active (written_params key.body.generics) ((ways program noted).parameters key)
-            ((ways program noted).result key)
-        runs active are =
-            let its = runs_at active are in
-            subst (λ ps. Run active ps ((ways program noted).parameters key) ((ways program noted).result key)) alike
-            (subst (λ kinds. Run active (parameters generics) kinds ((ways program noted).result key))
-            (kinds_alike labels its.ofs its.takes)
+        runs : (active : ℕ → Bool) → AreActive active (known.tokens way)
+            → Run active (written_params key.body.generics) (known.parameters way) (known.result way)
+        runs active on =
+            let its = runs_at active (subst (AreActive active) opens on) in
+            subst (λ ps. Run active ps (known.parameters way) (known.result way)) alike
+            (subst (λ kinds. Run active (parameters generics) kinds (known.result way))
+            (kinds_alike labels its.ofs its.takes ∙ sym takes)
             (subst (λ of. Run active (parameters generics) (kinds_given key.s its.ofs) of)
-            (runs_so key.body.header.result its.result its.gives) its.runs))
+            (runs_so key.body.header.result its.result its.gives ∙ sym gives) its.runs))
 
-        may_run : MayRun (types_of program) owner permits (ways program noted) allowed function key
-        may_run =
+        pub may_run_seen : MayRun (types_of program) owner permits known calls seen_function way
+        may_run_seen =
             let its = runs_at (λ k. true) (all_active key.tokens) in record {
               many = length-map (map (field_under (types_at program key.body.place Body) (heads_of program)
                   (written_params key.body.generics) given) labels) field_seen
                   ∙ (length-map labels (field_under (types_at program key.body.place Body) (heads_of program)
                   (written_params key.body.generics) given)
-                  ∙ sym (length-map labels (λ (p : Labelled Bytes). written_running program key.body key.s p.of)));
+                  ∙ (sym (length-map labels (λ (p : Labelled Bytes). written_running program key.body key.s p.of))
+                  ∙ ap (λ (ts : List Meaning). length ts) (sym takes)));
               names = λ k. unit;
               loose = loose;
-              fine = subst (Fine (first key.one)) (kinds_alike labels its.ofs its.takes)
+              fine = subst (Fine (first key.one)) (kinds_alike labels its.ofs its.takes ∙ sym takes)
                   (fine (first key.one) labels its.ofs (λ p there. there) its.takes
                   (parameters_drop function outside key.body.generics key.body.header));
               runs = runs;
-              ahead = (bodies_ahead function outside key.body.generics key.body.header good.0).1;
+              ahead = (bodies_ahead seen_function outside key.body.generics key.body.header good_seen).1;
             }
+
+  -- its notes say what is Free
+  pub function_tells : TellsFree (view_under program noted key.body.place (written_params key.body.generics) given)
+      (outer_scope outside (generics_in outside key.body.generics))
+  function_tells = good.0.tells
+
+  may_run : {W E H : Type 0} (permits : Permits (Key program noted) W) (allowed : Calls (Key program noted) E)
+      (handed : Permits (Key program noted) H)
+      → Covers
+      (MayHold permits key (AreGoodHere program noted key.body.place generics given)) (IsPermitted handed key) outside
+      generics labels key.body.block
+      → CallsRunHere program noted key.body.place generics given owner (callees (ways program noted) allowed key)
+      (IsPermitted handed key)
+      → MayRun (types_of program) owner permits (ways program noted) allowed function key
+  may_run permits allowed handed covers calls =
+      may_run_seen (λ ps. view_under program noted key.body.place ps given) function_tells permits
+      (ways program noted) allowed key handed covers
+      (round_fits program noted key.body.place generics given owner (callees (ways program noted) allowed key)
+      (IsPermitted handed key) checked
+      (constants_of_programs_stand program noted checked key.body.place generics given) calls)
+      refl refl refl
 
 pub programs_judged : (program : List ModuleParts) (noted : List NotedParts) (owner : ClosedType → Option (List ℕ))
     {W E H : Type 0} (permits : Permits (Key program noted) W) (calls : Calls (Key program noted) E)

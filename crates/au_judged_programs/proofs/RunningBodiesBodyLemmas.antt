@@ -34,7 +34,7 @@ use Rattle.au_judged_bodies.specs.ClosedTrees.Parts.{field_under}
 use Rattle.au_judged_bodies.specs.Bodies.{BodyOf}
 use Rattle.au_judged_bodies.specs.Instances.{Instance}
 use Rattle.au_meaning.specs.Names as meaning
-use Rattle.au_meaning.specs.Views.{Field}
+use Rattle.au_meaning.specs.Views.{Field, View}
 use Rattle.au_judged_bodies.specs.Generic.{field_seen, parameters_under}
 use Rattle.au_judged_bodies.specs.Tables.{types_of}
 use Rattle.au_known_programs.proofs.OutsideLemmas.{meant_parameters, outside_known}
@@ -45,7 +45,8 @@ use Rattle.au_judged_bodies.specs.Covering.{MayHold}
 use Rattle.au_judged_bodies.specs.Known.{Callables, InScope}
 use Rattle.au_judged_bodies.specs.Besides.{BesidesAll}
 use Rattle.au_judged_bodies.specs.Frames.{TypesAreUsable}
-use Rattle.au_judged_bodies.specs.Rounds.{PlaceFits}
+use Rattle.au_judged_bodies.specs.Notes.{Note}
+use Rattle.au_judged_bodies.specs.Rounds.{PlaceFits, RoundFits}
 use Rattle.au_judged_bodies.proofs.BlockLemmas.{all_run}
 use Rattle.au_judged_bodies.specs.Begun.{AreMeant, BodyBegins, fields_given, kinds_given}
 use Rattle.au_judged_bodies.proofs.TypedBodiesBodyLemmas.{body_begins}
@@ -149,6 +150,70 @@ module _ (program : List ModuleParts) (place : ℕ) (generics : List (Constraine
   given_alike (p ∷ rest) [] are = absurd are
 
 module _ (program : List ModuleParts) (noted : List NotedParts) (body : BodyOf) (given : Given)
+    (owner : ClosedType → Option (List ℕ)) {I K : Type 0} (see : View I Note (Unit {0})) (known : Callables I K)
+    (may_hand : Meaning → Type 0) {V W : Type 0} (permits : Permits V W) (key : V) where
+  -- a body runs as it is seen in a view that fits
+  pub seen_runs : IsChecked program noted
+      → (good : GoodBody (outside_of program body.place Body) body.generics body.header body.block)
+      → RoundFits (types_of program) owner see known may_hand (outside_of program body.place Body)
+      (generics_of program noted body given) given
+      (AreGoodHere program noted body.place (generics_of program noted body given) given)
+      → ((kind : IntKind) → IsPermitted permits key (integer kind))
+      → (loose active : ℕ → Bool) (first : ℕ) (s : Bindings) (names : ℕ → Meaning)
+      → AreGoodHere program noted body.place (generics_of program noted body given) given s
+      → ((name : List ℕ) → IsRegionName [] (parameters (generics_of program noted body given)) name
+      → InScope active (region_for (value_of name s) name))
+      → TypesAreUsable active (parameters (generics_of program noted body given)) s
+      → BesidesAll see loose
+      (MayHold permits key (AreGoodHere program noted body.place (generics_of program noted body given) given))
+      may_hand (first + length (parameters_under program noted given body))
+      good.scope (meaning.with_parameters first (parameters_under program noted given body) []) body.block
+      → BodyRuns program noted body given owner see known permits key loose active first s names
+  seen_runs checked good round counts loose active first s names stands regions within besides = record {
+    ofs = begun.ofs;
+    result = good.scope.result;
+    takes = begun.are;
+    gives = result_written (outside_of program body.place Body) body.generics body.header good.scope good.formed;
+    many = ap length alike ∙ counted;
+    runs = all_run (types_of program) owner see known may_hand given
+        (AreGoodHere program noted body.place (generics_of program noted body given) given) loose
+        (running s 0 good.scope.result) permits key counts body.block active
+        (first + length (parameters_under program noted given body)) good.scope
+        (meaning.with_parameters first (parameters_under program noted given body) []) s
+        (with_types first (kinds_given s begun.ofs) names) place good.good besides;
+  }
+    where
+      begun : BodyBegins (types_of program) owner see known may_hand given
+          (AreGoodHere program noted body.place (generics_of program noted body given) given) active first s names
+          (outer_scope (outside_of program body.place Body) (generics_of program noted body given))
+          body.header.parameters
+          good.scope
+      begun = body_begins (types_of program) owner see known may_hand given
+          (AreGoodHere program noted body.place (generics_of program noted body given) given)
+          (outside_of program body.place Body) body.generics body.header good.scope good.formed
+          (outside_known program
+          (definitions_fit program checked.gathered checked.named checked.kept checked.declared)
+          (declarations_fit program noted checked) body.place Body)
+          round active first s names stands regions within
+
+      alike : parameters_under program noted given body ≡ fields_given given body.header.parameters begun.ofs
+      alike = given_alike program body.place body.generics given body.header.parameters begun.ofs begun.are
+
+      counted : length (fields_given given body.header.parameters begun.ofs) ≡ length begun.ofs
+      counted = as_many (outer_scope (outside_of program body.place Body) (generics_of program noted body given)) given
+          body.header.parameters begun.ofs begun.are
+
+      Placed : ℕ → List Field → Type 0
+      Placed n fields = PlaceFits (types_of program) owner see known may_hand given
+          (AreGoodHere program noted body.place (generics_of program noted body given) given)
+          (running s 0 good.scope.result) active (first + n) good.scope (meaning.with_parameters first fields []) s
+          (with_types first (kinds_given s begun.ofs) names)
+
+      place : Placed (length (parameters_under program noted given body)) (parameters_under program noted given body)
+      place = subst (λ fields. Placed (length fields) fields) (sym alike)
+          (subst (λ n. Placed n (fields_given given body.header.parameters begun.ofs)) (sym counted) begun.place)
+
+module _ (program : List ModuleParts) (noted : List NotedParts) (body : BodyOf) (given : Given)
     (owner : ClosedType → Option (List ℕ)) {K : Type 0} (known : Callables Instance K) (may_hand : Meaning → Type 0)
     {V W : Type 0}
     (permits : Permits V W) (key : V) where
@@ -166,49 +231,10 @@ module _ (program : List ModuleParts) (noted : List NotedParts) (body : BodyOf) 
       (MayHold permits key (AreGoodHere program noted body.place (generics_of program noted body given) given))
       may_hand (first + length (parameters_under program noted given body))
       good.scope (meaning.with_parameters first (parameters_under program noted given body) []) body.block
-      → BodyRuns program noted body given owner known permits key loose active first s names
-  body_runs checked good constants calls counts loose active first s names stands regions within besides = record {
-    ofs = begun.ofs;
-    result = good.scope.result;
-    takes = begun.are;
-    gives = result_written (outside_of program body.place Body) body.generics body.header good.scope good.formed;
-    many = ap length alike ∙ counted;
-    runs = all_run (types_of program) owner (view_of program noted body given) known may_hand given
-        (AreGoodHere program noted body.place (generics_of program noted body given) given) loose
-        (running s 0 good.scope.result) permits key counts body.block active
-        (first + length (parameters_under program noted given body)) good.scope
-        (meaning.with_parameters first (parameters_under program noted given body) []) s
-        (with_types first (kinds_given s begun.ofs) names) place good.good besides;
-  }
-    where
-      begun : BodyBegins (types_of program) owner (view_of program noted body given) known may_hand given
-          (AreGoodHere program noted body.place (generics_of program noted body given) given) active first s names
-          (outer_scope (outside_of program body.place Body) (generics_of program noted body given))
-          body.header.parameters
-          good.scope
-      begun = body_begins (types_of program) owner (view_of program noted body given) known may_hand given
-          (AreGoodHere program noted body.place (generics_of program noted body given) given)
-          (outside_of program body.place Body) body.generics body.header good.scope good.formed
-          (outside_known program
-          (definitions_fit program checked.gathered checked.named checked.kept checked.declared)
-          (declarations_fit program noted checked) body.place Body)
-          (round_fits program noted body.place (generics_of program noted body given) given owner known may_hand
-          checked constants
-          calls) active first s names stands regions within
-
-      alike : parameters_under program noted given body ≡ fields_given given body.header.parameters begun.ofs
-      alike = given_alike program body.place body.generics given body.header.parameters begun.ofs begun.are
-
-      counted : length (fields_given given body.header.parameters begun.ofs) ≡ length begun.ofs
-      counted = as_many (outer_scope (outside_of program body.place Body) (generics_of program noted body given)) given
-          body.header.parameters begun.ofs begun.are
-
-      Placed : ℕ → List Field → Type 0
-      Placed n fields = PlaceFits (types_of program) owner (view_of program noted body given) known may_hand given
-          (AreGoodHere program noted body.place (generics_of program noted body given) given)
-          (running s 0 good.scope.result) active (first + n) good.scope (meaning.with_parameters first fields []) s
-          (with_types first (kinds_given s begun.ofs) names)
-
-      place : Placed (length (parameters_under program noted given body)) (parameters_under program noted given body)
-      place = subst (λ fields. Placed (length fields) fields) (sym alike)
-          (subst (λ n. Placed n (fields_given given body.header.parameters begun.ofs)) (sym counted) begun.place)
+      → BodyRuns program noted body given owner (view_of program noted body given) known permits key loose active first
+      s names
+  body_runs checked good constants calls counts =
+      seen_runs program noted body given owner (view_of program noted body given) known may_hand permits key checked
+      good
+      (round_fits program noted body.place (generics_of program noted body given) given owner known may_hand checked
+      constants calls) counts

@@ -40,11 +40,11 @@ module _ (program : List ModuleParts) (noted : List NotedParts) (body : BodyOf) 
   abbrev pub view_of : View Instance Note (Unit {0})
   view_of = view_under program noted body.place (parameters generics_of) given
 
-  -- A body runs, with its parameters as the first names of its frame, at the running types of what is written
-  -- for them and for its result.
-  pub record BodyRuns (owner : ClosedType → Option (List ℕ)) {K : Type 0} (known : Callables Instance K)
-      {V W : Type 0} (permits : Permits V W) (key : V) (loose : ℕ → Bool) (active : ℕ → Bool) (first : ℕ)
-      (s : Bindings) (names : ℕ → Meaning) : Type 0 where
+  -- A body runs, as it is seen in a view, with its parameters as the first names of its frame, at the running
+  -- types of what is written for them and for its result.
+  pub record BodyRuns (owner : ClosedType → Option (List ℕ)) {I K : Type 0} (see : View I Note (Unit {0}))
+      (known : Callables I K) {V W : Type 0} (permits : Permits V W) (key : V) (loose : ℕ → Bool)
+      (active : ℕ → Bool) (first : ℕ) (s : Bindings) (names : ℕ → Meaning) : Type 0 where
     pub ofs : List Meaning
     pub result : Meaning
     pub takes : AreMeant
@@ -52,7 +52,7 @@ module _ (program : List ModuleParts) (noted : List NotedParts) (body : BodyOf) 
     pub gives : written_type
         (outer_scope (outside_of program body.place Body) generics_of) body.header.result ≡ Ok result
     pub many : length (parameters_under program noted given body) ≡ length ofs
-    pub runs : RunsAll (types_of program) owner view_of known (running s 0 result) loose permits key active
+    pub runs : RunsAll (types_of program) owner see known (running s 0 result) loose permits key active
         (first + length (parameters_under program noted given body))
         (meaning.with_parameters first (parameters_under program noted given body) []) body.block
         (with_types first (kinds_given s ofs) names)
@@ -77,4 +77,4 @@ module _ (program : List ModuleParts) (noted : List NotedParts) (body : BodyOf) 
       (MayHold permits key (AreGoodHere program noted body.place generics_of given))
       may_hand (first + length (parameters_under program noted given body)) good.scope
       (meaning.with_parameters first (parameters_under program noted given body) []) body.block
-      → BodyRuns owner known permits key loose active first s names
+      → BodyRuns owner view_of known permits key loose active first s names
