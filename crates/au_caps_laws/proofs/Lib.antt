@@ -21,3 +21,6 @@ pub mod HeldLemmas
 pub mod AlikeLemmas
 pub mod WatchLemmas
 pub mod PassLemmas
+pub mod AlwaysLemmas
+pub mod ActsLemmas
+pub mod LookLemmas
