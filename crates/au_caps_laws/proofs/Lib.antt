@@ -24,3 +24,4 @@ pub mod PassLemmas
 pub mod AlwaysLemmas
 pub mod ActsLemmas
 pub mod LookLemmas
+pub mod ActingLemmas

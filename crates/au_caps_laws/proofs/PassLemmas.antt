@@ -70,6 +70,7 @@ use Rattle.au_caps_laws.specs.Watching.{Watch, watched_at, watched_mean}
 use Rattle.au_caps_laws.proofs.AlikeLemmas.{IsOne, IsStuck, means_alike}
 use Rattle.au_caps_laws.proofs.AlwaysLemmas.{Performed}
 use Rattle.au_caps_laws.proofs.ActsLemmas.{acts_safe}
+use Rattle.au_caps_laws.proofs.ActingLemmas.{may_act}
 use Rattle.au_caps_laws.proofs.LookLemmas.{acted_well}
 use Rattle.au_caps_laws.proofs.ReachLemmas.{arguments_handed, parameters_held, result_handed}
 use Rattle.au_caps_laws.proofs.RunForLemmas.{run_there}
