@@ -96,10 +96,12 @@ module _ (types : Types) (owner : ClosedType → Option (List ℕ)) {V W : Type 
             → Bears types owner see known of home b one.result
             → GoodHeld types owner permits ways Done (makes_value b of tag home (values_of made) w ticks)
         by_made of tag home true fields bears =
-            good_uncut owner (IsCutSo types owner permits ways) Done (makes_value true of tag home (values_of made) w ticks)
+            good_uncut owner (IsCutSo types owner permits ways) Done
+            (makes_value true of tag home (values_of made) w ticks)
             (laws.made_linear acts fs sizes under w ticks made one.result of tag home fields bears.0 bears.1 state)
         by_made of tag home false fields bears =
-            good_uncut owner (IsCutSo types owner permits ways) Done (makes_value false of tag home (values_of made) w ticks)
+            good_uncut owner (IsCutSo types owner permits ways) Done
+            (makes_value false of tag home (values_of made) w ticks)
             (laws.made_free acts fs sizes under w ticks made one.result of tag home fields bears state)
 
         by : (act : views.Act I)

@@ -1,6 +1,7 @@
 -- What is passed in the ways in which functions are called, and what is returned, is listed.
 use Rattle.std.proofs.Common.{◌≡◌, inl, inr, ℕ, suc, true, List, [], ◌∷◌, map, Option, None, Some, Contains, refl}
 use Rattle.std.proofs.Common.{sym, ap, subst}
+use Rattle.std.specs.Option.{option_map}
 use Rattle.au_syntax.specs.declared.modules.Part.TheVariants.{Body}
 use Rattle.au_syntax.specs.Plain.{Bytes}
 use Rattle.au_syntax.specs.Types.{Labelled, WrittenType}
@@ -14,8 +15,10 @@ use Rattle.au_type_texts.specs.Types as closed_types
 use Rattle.au_type_texts.specs.Types.{ClosedType}
 use Rattle.au_meaning.specs.Meanings.{begun, call_at, first_world, mean, parameters_of, seen}
 use Rattle.au_meaning.specs.Ticks.{Out, aborts, cut, gives, no_rule}
-use Rattle.au_meaning.specs.Views.{Function}
+use Rattle.au_meaning.specs.Views as views
+use Rattle.au_meaning.specs.Views.{Function, invokes, makes, ships}
 use Rattle.au_meaning.specs.Worlds.{Value, World}
+use Rattle.au_running_judgements.specs.Expressions.{Performs}
 use Rattle.au_running_types.specs.Running.{running}
 use Rattle.au_running_types.proofs.ClosedLemmas.{type_closes}
 use Rattle.au_written_types.specs.Written.{IsRegionName, IsTypeName}
@@ -26,13 +29,14 @@ use Rattle.au_modules.specs.Programs.{ModuleParts}
 use Rattle.au_names.specs.HeadsOf.{heads_of}
 use Rattle.au_names.proofs.AmongLemmas.{Among, among, contains}
 use Rattle.au_typing.specs.Notes.{Note, NotedExpression, type_of}
+use Rattle.au_typing.specs.Outsides.{outside_of}
 use Rattle.au_typing.specs.Parts.{borrow_type}
 use Rattle.au_typing.specs.Trees.{NotedParts, NotedStatements}
 use Rattle.au_typing.specs.Written.{types_at}
 use Rattle.au_closing.specs.Bodies.{BodyOf}
 use Rattle.au_closing.specs.Instances.{Instance}
-use Rattle.au_closed_meanings.specs.Generic.{generic_functions}
-use Rattle.au_memory.specs.Forests.{Made}
+use Rattle.au_closed_meanings.specs.Generic.{function_under, generic_functions}
+use Rattle.au_memory.specs.Forests as forest
 use Rattle.au_lending.specs.Records.{onto, types_made}
 use Rattle.au_safe_ships.specs.Frames.{Frame}
 use Rattle.au_safe_ships.specs.Good.{IsIn}
@@ -41,40 +45,36 @@ use Rattle.au_safe_ships.specs.Orders.{Act}
 use Rattle.au_tables.specs.Tables.{types_of}
 use Rattle.au_owners.specs.Owners.{owner_of}
 use Rattle.au_accepted.specs.Programs.{program_modules}
-use Rattle.au_judged_bodies.specs.Blocks.{AllRun}
+use Rattle.au_judged_bodies.specs.Covering.{Covers, MayHold}
 use Rattle.au_judged_bodies.specs.Held.{IsPermitted, Permits}
-use Rattle.au_judged_bodies.specs.Known.{Calls}
 use Rattle.au_judged_bodies.specs.Keys.{Key, meant_or_unit, ways, written_running}
 use Rattle.au_judged_bodies.specs.Sights.{AreHandedAs}
 use Rattle.au_judged_bodies.specs.StandingTypesStanding.{StandsFor}
 use Rattle.au_judged_bodies.specs.Texts.{arguments_by_block}
 use Rattle.au_judged_bodies.proofs.StandingTypesStandLemmas.{known_closes}
 use Rattle.au_judged_programs.specs.CheckedChecked.{IsChecked}
-use Rattle.au_judged_programs.specs.Judged.{AreCovered, CallsAreAllowed, anything}
+use Rattle.au_judged_programs.specs.Judged.{anything}
 use Rattle.au_judged_programs.specs.RoundProgramsBodies.{AreGoodHere}
 use Rattle.au_judged_programs.specs.RunningBodiesBodies.{generics_of}
 use Rattle.au_judged_programs.proofs.BirthLemmas.{checked_typed}
 use Rattle.au_judged_programs.proofs.EntryLemmas.{entry_way}
 use Rattle.au_judged_programs.proofs.FitLemmas.{accepted_checked}
-use Rattle.au_judged_programs.proofs.JudgedLemmas.{programs_judged}
-use Rattle.au_judged_programs.proofs.SoundEntriesCallLemmas.{calls_of_programs}
+use Rattle.au_judged_programs.proofs.JudgedLemmas.{all_active}
 use Rattle.au_sound.specs.Runs.{IsEntry, IsSeenWell, RunsAreSafe}
 use Rattle.au_sound.proofs.WireLemmas.{runs_are_safe}
 use Rattle.au_caps_lists.specs.Bodies.{Bodied, params_of}
 use Rattle.au_caps_lists.specs.Holding.{Hands, Holds}
 use Rattle.au_caps_laws.specs.Births.{run_as}
-use Rattle.au_caps_laws.specs.Passing.{AcceptedCallsAreListed, AreBoundedBy, AreHandedBy, CallsAreListed, IsBoundedBy}
-use Rattle.au_caps_laws.specs.Passing.{LetsPass}
+use Rattle.au_caps_laws.specs.Passing.{AcceptedCallsAreListed, AreBoundedBy, AreHandedBy, AreHeldBy, AreTakenBy}
+use Rattle.au_caps_laws.specs.Passing.{CallsAreListed, IsBoundedBy, LetsPass}
 use Rattle.au_caps_laws.specs.Reach.{ClosedReaches, IsReachedOrGiven, declared_in, meant_among}
-use Rattle.au_caps_laws.specs.Watching.{Watch, watched_at, watched_mean}
-use Rattle.au_caps_laws.proofs.AlikeLemmas.{IsOne, IsStuck, means_alike}
-use Rattle.au_caps_laws.proofs.AlwaysLemmas.{Performed}
-use Rattle.au_caps_laws.proofs.ActsLemmas.{acts_safe}
-use Rattle.au_caps_laws.proofs.ActingLemmas.{may_act}
-use Rattle.au_caps_laws.proofs.LookLemmas.{acted_well}
+use Rattle.au_caps_laws.specs.Performing.{ActWatch, acted_at, acted_mean}
+use Rattle.au_caps_laws.specs.Watching.{tested}
+use Rattle.au_caps_laws.proofs.AlikeLemmas.{IsOne, IsStuck, acted_means}
+use Rattle.au_caps_laws.proofs.ActingLemmas.{LeadsOn, Made, by_key, may_act, somewhere}
+use Rattle.au_caps_laws.proofs.LookLemmas.{AllAct, Begins, Passes, Returns, acted_well}
 use Rattle.au_caps_laws.proofs.ReachLemmas.{arguments_handed, parameters_held, result_handed}
 use Rattle.au_caps_laws.proofs.RunForLemmas.{run_there}
-use Rattle.au_caps_laws.proofs.WatchLemmas.{Begins, Passes, Returns, watched_well}
 
 -- what is seen well isn't stuck
 no_stuck : (owner : ClosedType → Option (List ℕ)) (ticks : ℕ) (out : Out Value) → IsStuck out
@@ -167,14 +167,23 @@ module _ (program : List ModuleParts) (noted : List NotedParts) where
   argument_of key t (one, way, is) =
       (one.e, subst (λ (k : Key program noted). Contains (arguments_by_block k.body.block) one.e) way one.there, is)
 
-  all_covered : AreCovered program noted arguments (anything (Key program noted))
-  all_covered key = record {
-    integers = λ kind s stands. ((key, running s 0 (integer kind)), refl, refl);
-    references = λ mode region t of lent held s stands. ((key, running s 0 (borrow_type mode region of)), refl, refl);
-    given = λ p there t is s stands. ((key, running s 0 t), refl, refl);
-    written = λ w there sc outside generics t is s stands. ((key, running s 0 t), refl, refl);
-    handed = λ e there. (record { key = key; e = e; there = there }, refl, refl);
-  }
+  -- what is permitted in the ways in which calls are made covers the body of each function
+  covered : (key : Key program noted)
+      → Covers
+      (MayHold (anything (Made program noted)) (by_key program noted key)
+      (AreGoodHere program noted key.body.place (generics_of program noted key.body key.one.given) key.one.given))
+      (IsPermitted arguments key) (outside_of program key.body.place Body)
+      (generics_of program noted key.body key.one.given) key.body.header.parameters key.body.block
+  covered key =
+      let way = by_key program noted key in
+      record {
+        integers = λ kind s stands. ((way, running s 0 (integer kind)), refl, refl);
+        references = λ mode region t of lent held s stands.
+            ((way, running s 0 (borrow_type mode region of)), refl, refl);
+        given = λ p there t is s stands. ((way, running s 0 t), refl, refl);
+        written = λ w there sc outside generics t is s stands. ((way, running s 0 t), refl, refl);
+        handed = λ e there. (record { key = key; e = e; there = there }, refl, refl);
+      }
 
   module _ (key : Key program noted) where
     -- running types of arguments in a body
@@ -204,23 +213,44 @@ module _ (program : List ModuleParts) (noted : List NotedParts) where
           kinds_handed b same kinds others,
         )
 
-  -- Calls from one way to another, to whose parameters the function that makes the call hands on what it may.
+  -- Calls from a way in which a function is called, made in a way to whose arguments it hands on what it may.
   record Call : Type 0 where
     from : Key program noted
-    to : Key program noted
-    handed : AreHandedBy program noted (Some from.one) ((ways program noted).parameters to)
+    to : Made program noted
+    handed : AreHandedBy program noted (Some from.one) to.kinds
 
-  abbrev handing : Calls (Key program noted) Call
-  handing = record { from = λ call. call.from; to = λ call. call.to }
+  abbrev from : Call → Key program noted
+  from call = call.from
 
-  all_allowed : CallsAreAllowed program noted arguments handing
-  all_allowed key to are =
+  abbrev to : Call → Made program noted
+  to call = call.to
+
+  -- ---- what functions and methods are passed
+
+  -- the types of the parameters of a function in a way in which it is called
+  way_taken : (key : Key program noted) → AreHeldBy program noted key.one ((ways program noted).parameters key)
+  way_taken key =
       let its = run_there program noted key.one.of key.body key.there in
-      let bounded = kinds_handed key its.0 its.2 ((ways program noted).parameters to)
-      (subst (λ (body : BodyOf). AreArguments key body ((ways program noted).parameters to)) (sym its.2) are) in
-      (record { from = key; to = to; handed = (its.0, its.1.run, bounded) }, refl, refl)
+      record {
+        key = key;
+        called = refl;
+        takes = refl;
+        body = its.0;
+        runs = its.1.run;
+        listed = way_held key its.0 its.2;
+      }
 
-  module _ (watch : Watch Instance) (lets : LetsPass program noted watch) (first : Instance → ℕ)
+  act_taken : (act : views.Act Instance) (kinds : List Meaning) (t : Meaning)
+      → Performs (types_of program) (owner_of program) (somewhere program noted) (ways program noted) (λ k. true) act
+      kinds t
+      → AreTakenBy program noted act kinds
+  act_taken (invokes one) kinds t (key, of, takes, leads, on) =
+      subst (λ (f : Instance). AreHeldBy program noted f kinds) of
+      (subst (AreHeldBy program noted key.one) takes (way_taken key))
+  act_taken (makes of tag home) kinds t h = tt
+  act_taken (ships call born) kinds t h = tt
+
+  module _ (watch : ActWatch Instance) (lets : LetsPass program noted watch) (first : Instance → ℕ)
       (checked : IsChecked program noted) where
     abbrev functions : Instance → Option (Function Instance Note (Unit {0}))
     functions = generic_functions program noted first
@@ -228,22 +258,32 @@ module _ (program : List ModuleParts) (noted : List NotedParts) where
     safe : RunsAreSafe (types_of program) (owner_of program)
     safe = runs_are_safe (types_of program) (owner_of program) (checked_typed program noted checked)
 
-    judged : AllRun (types_of program) (owner_of program) (anything (Key program noted)) (ways program noted) handing
-        functions
-    judged =
-        programs_judged program noted (owner_of program) (anything (Key program noted)) handing arguments checked
-        (calls_of_programs program noted handing arguments checked all_allowed) all_covered first
-
-    lets_pass : (caller : Option Instance) (key : Key program noted)
-        → AreHandedBy program noted caller ((ways program noted).parameters key) → (acts : List Act) (fs : List Frame)
-        (sizes : List ℕ) (made under : Made) (w : World) → types_made made ≡ (ways program noted).parameters key
-        → IsIn (types_of program) (owner_of program) acts fs sizes (onto made under) w
-        → watch.passed caller key.one (values_of made) w ≡ true
-    lets_pass caller key handed acts fs sizes made under w typed state =
+    leads : (key : Key program noted)
+        → LeadsOn program noted checked from to arguments (anything (Made program noted)) key
+    leads key one are =
         let its = run_there program noted key.one.of key.body key.there in
-        lets.passed caller key.one (values_of made) w (record {
-          key = key;
-          called = refl;
+        let bounded = kinds_handed key its.0 its.2 one.kinds
+        (subst (λ (body : BodyOf). AreArguments key body one.kinds) (sym its.2) are) in
+        (record { from = key; to = one; handed = (its.0, its.1.run, bounded) }, refl, refl)
+
+    all_act : AllAct (types_of program) (owner_of program) (somewhere program noted) (ways program noted)
+        (anything (Made program noted)) from to functions
+    all_act key = (
+      function_under program noted (first key.one) key.one.given key.body,
+      ap (option_map (function_under program noted (first key.one) key.one.given)) key.there,
+      λ of. refl,
+      may_act program noted checked from to arguments (anything (Made program noted)) key (leads key) first
+          (covered key),
+    )
+
+    lets_pass : (caller : Option Instance) (act : views.Act Instance) (kinds : List Meaning)
+        → AreTakenBy program noted act kinds → AreHandedBy program noted caller kinds → (acts : List Act)
+        (fs : List Frame) (sizes : List ℕ) (made under : forest.Made) (w : World) → types_made made ≡ kinds
+        → IsIn (types_of program) (owner_of program) acts fs sizes (onto made under) w
+        → watch.passed caller act (values_of made) w ≡ true
+    lets_pass caller act kinds taken handed acts fs sizes made under w typed state =
+        lets.passed caller act (values_of made) w (record {
+          kinds = kinds;
           typed = record {
             made = made;
             are = refl;
@@ -254,27 +294,25 @@ module _ (program : List ModuleParts) (noted : List NotedParts) where
             under = under;
             state = state;
           };
-          body = its.0;
-          runs = its.1.run;
-          listed = way_held key its.0 its.2;
+          taken = taken;
           handed = handed;
         })
 
-    begins : Begins (types_of program) (owner_of program) (anything (Key program noted)) safe (ways program noted)
-        handing
-        functions judged watch
+    begins : Begins (types_of program) (owner_of program) (somewhere program noted) (ways program noted)
+        (anything (Made program noted)) from to watch
     begins key acts fs sizes made under w typed state =
-        lets_pass None key tt acts fs sizes made under w typed state
+        lets_pass None (invokes key.one) ((ways program noted).parameters key) (way_taken key) tt acts fs sizes made
+        under w typed state
 
-    passes : Passes (types_of program) (owner_of program) (anything (Key program noted)) safe (ways program noted)
-        handing
-        functions judged watch
+    passes : Passes (types_of program) (owner_of program) (somewhere program noted) (ways program noted)
+        (anything (Made program noted)) from to watch
     passes call acts fs sizes made under w typed state =
-        lets_pass (Some call.from.one) call.to call.handed acts fs sizes made under w typed state
+        lets_pass (Some call.from.one) call.to.act call.to.kinds
+        (act_taken call.to.act call.to.kinds call.to.result
+        (call.to.performs (λ k. true) (all_active call.to.tokens))) call.handed acts fs sizes made under w typed state
 
-    returns : Returns (types_of program) (owner_of program) (anything (Key program noted)) safe (ways program noted)
-        handing
-        functions judged watch
+    returns : Returns (types_of program) (owner_of program) (somewhere program noted) (ways program noted)
+        (anything (Made program noted)) from to watch
     returns key acts fs sizes under v w state =
         let its = run_there program noted key.one.of key.body key.there in
         lets.returned key.one v w (record {
@@ -299,28 +337,28 @@ module _ (program : List ModuleParts) (noted : List NotedParts) where
     way_same : (key : Key program noted)
         → IsEntry (types_of program) (owner_of program) (ways program noted) functions key
         → (input : List ℕ) (ticks : ℕ)
-        → watched_mean watch functions key.one input ticks ≡ mean functions key.one input ticks
-    way_same key entry input ticks = by (means_alike functions watch key.one input ticks)
+        → acted_mean watch functions key.one input ticks ≡ mean functions key.one input ticks
+    way_same key entry input ticks = by (acted_means functions watch key.one input ticks)
       where
-        well : IsSeenWell (owner_of program) (watched_mean watch functions key.one input ticks)
+        well : IsSeenWell (owner_of program) (acted_mean watch functions key.one input ticks)
         well =
-            watched_well (types_of program) (owner_of program) (anything (Key program noted)) safe (ways program noted)
-            handing functions judged watch begins passes returns key entry input ticks
+            acted_well (types_of program) (owner_of program) (somewhere program noted) (ways program noted)
+            (anything (Made program noted)) from to watch safe functions all_act begins passes returns key entry input
+            ticks
 
         by : IsOne
-            (begun (parameters_of (functions key.one)) (watched_at watch functions (suc ticks) None key.one)
-            (first_world input)
-            ticks)
+            (begun (parameters_of (functions key.one)) (λ args. tested (watch.passed None (invokes key.one) args)
+            (acted_at watch functions (suc ticks) key.one args)) (first_world input) ticks)
             (begun (parameters_of (functions key.one)) (call_at functions (suc ticks) key.one) (first_world input)
             ticks)
-            → watched_mean watch functions key.one input ticks ≡ mean functions key.one input ticks
+            → acted_mean watch functions key.one input ticks ≡ mean functions key.one input ticks
         by (inl same) = ap (seen ticks) same
         by (inr stuck) = absurd (no_stuck (owner_of program) ticks _ stuck well)
 
   pub calls_listed : IsChecked program noted → CallsAreListed program noted
   calls_listed checked watch lets first target entry input ticks =
       let (key, called, its) = entry_way program noted checked target entry first in
-      subst (λ (one : Instance). watched_mean watch (generic_functions program noted first) one input ticks
+      subst (λ (one : Instance). acted_mean watch (generic_functions program noted first) one input ticks
       ≡ mean (generic_functions program noted first) one input ticks) called
       (way_same watch lets first checked key its input ticks)
 

@@ -1,4 +1,4 @@
--- What is passed to functions and what they return, while an accepted program runs.
+-- What calls are passed, whatever they do, and what functions return, while an accepted program runs.
 use Rattle.std.specs.Prelude.{◌≡◌, ℕ, true, List, [], ◌∷◌, Option, None, Some}
 use Rattle.au_base.specs.Outside.{Files}
 use Rattle.au_syntax.specs.Plain.{Bytes}
@@ -11,6 +11,8 @@ use Rattle.au_names.specs.declared.targets.Target.{Target}
 use Rattle.au_typing.specs.Trees.{NotedParts}
 use Rattle.au_closing.specs.Instances.{Instance}
 use Rattle.au_meaning.specs.Meanings.{mean}
+use Rattle.au_meaning.specs.Views as views
+use Rattle.au_meaning.specs.Views.{invokes, makes, ships}
 use Rattle.au_meaning.specs.Worlds.{Value, World}
 use Rattle.au_closed_meanings.specs.Generic.{generic_functions}
 use Rattle.au_memory.specs.Forests.{Made}
@@ -30,7 +32,7 @@ use Rattle.au_caps_lists.specs.Bodies.{Bodied}
 use Rattle.au_caps_lists.specs.Holding.{Hands, Holds}
 use Rattle.au_caps_laws.specs.Births.{IsRunFor}
 use Rattle.au_caps_laws.specs.Reach.{ClosedReaches, IsReachedOrGiven}
-use Rattle.au_caps_laws.specs.Watching.{Watch, watched_mean}
+use Rattle.au_caps_laws.specs.Performing.{ActWatch, acted_mean}
 
 module _ (program : List ModuleParts) where
   -- The type of a value is bounded by a list of heads: it closes, and then it reaches only what is on the
@@ -66,18 +68,31 @@ module _ (program : List ModuleParts) (noted : List NotedParts) where
       (body : Bodied) × IsRunFor program noted caller.of body
       × AreBoundedBy program caller.given (Hands program body) ts
 
-  -- The precondition of calls: a function or method is called in one of its ways, what is passed to it is of
-  -- the types of its parameters there, and these reach only what it holds, by the report's list, or what is
-  -- given for its type parameters reaches; and what makes the call hands them on.
-  pub record IsPassedWell (caller : Option Instance) (one : Instance) (args : List Value) (w : World) : Type 0
-    where
-      pub key : Key program noted
-      pub called : key.one ≡ one
-      pub typed : AreOf program args ((ways program noted).parameters key) w
-      pub body : Bodied
-      pub runs : IsRunFor program noted one.of body
-      pub listed : AreBoundedBy program one.given (Holds program body) ((ways program noted).parameters key)
-      pub handed : AreHandedBy caller ((ways program noted).parameters key)
+  -- Types of what a function or method is passed: those of its parameters in one of its ways, and they reach
+  -- only what it holds, by the report's list, or what is given for its type parameters reaches.
+  pub record AreHeldBy (one : Instance) (ts : List Meaning) : Type 0 where
+    pub key : Key program noted
+    pub called : key.one ≡ one
+    pub takes : (ways program noted).parameters key ≡ ts
+    pub body : Bodied
+    pub runs : IsRunFor program noted one.of body
+    pub listed : AreBoundedBy program one.given (Holds program body) ts
+
+  -- So are the types of what a call is passed, where it calls a function or a method; where it makes a value
+  -- of a case, or is a shipped call, nothing is asked of them.
+  abbrev pub AreTakenBy : views.Act Instance → List Meaning → Type 0
+  AreTakenBy (invokes one) ts = AreHeldBy one ts
+  AreTakenBy (makes of tag home) ts = Unit {0}
+  AreTakenBy (ships call born) ts = Unit {0}
+
+  -- The precondition of calls, whatever they do: what a call is passed is of some types, which what is called
+  -- takes, and which the function or method that makes the call hands on.
+  pub record IsPassedWell (caller : Option Instance) (act : views.Act Instance) (args : List Value) (w : World)
+      : Type 0 where
+    pub kinds : List Meaning
+    pub typed : AreOf program args kinds w
+    pub taken : AreTakenBy act kinds
+    pub handed : AreHandedBy caller kinds
 
   -- The postcondition: what it returns is of the type of its result in one of its ways, and this reaches only
   -- what it hands on, by the report's list, or what is given for its type parameters reaches.
@@ -90,20 +105,21 @@ module _ (program : List ModuleParts) (noted : List NotedParts) where
     pub listed : IsBoundedBy program one.given (Hands program body) ((ways program noted).result key)
 
   -- a watch lets pass what is passed and returned so
-  pub record LetsPass (watch : Watch Instance) : Type 0 where
-    pub passed : (caller : Option Instance) (one : Instance) (args : List Value) (w : World)
-        → IsPassedWell caller one args w → watch.passed caller one args w ≡ true
+  pub record LetsPass (watch : ActWatch Instance) : Type 0 where
+    pub passed : (caller : Option Instance) (act : views.Act Instance) (args : List Value) (w : World)
+        → IsPassedWell caller act args w → watch.passed caller act args w ≡ true
     pub returned : (one : Instance) (value : Value) (w : World) → IsReturnedWell one value w
         → watch.returned one value w ≡ true
 
   -- A run under such a watch is the run itself, from each function that has the form of an entry, whatever
   -- the input and however many ticks there are, and whichever numbers the first names of functions have: so
-  -- in each run whatever is passed to functions and methods, and what they return, is passed and returned so.
+  -- in each run whatever is passed to a call, be it of a function or a method, or a shipped one, or one that
+  -- makes a value, and what functions and methods return, is passed and returned so.
   abbrev pub CallsAreListed : Type 0
   CallsAreListed =
-      (watch : Watch Instance) → LetsPass watch → (first : Instance → ℕ) (target : Target)
+      (watch : ActWatch Instance) → LetsPass watch → (first : Instance → ℕ) (target : Target)
       → IsEntryHere program noted target → (input : List ℕ) (ticks : ℕ)
-      → watched_mean watch (generic_functions program noted first) (record { of = target; given = [] }) input
+      → acted_mean watch (generic_functions program noted first) (record { of = target; given = [] }) input
       ticks
       ≡ mean (generic_functions program noted first) (record { of = target; given = [] }) input ticks
 

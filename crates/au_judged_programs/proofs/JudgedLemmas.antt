@@ -68,7 +68,7 @@ use Rattle.au_judged_bodies.proofs.AskedLemmas.{bodies_asked, parameters_drop}
 use Rattle.au_judged_programs.proofs.CheckedBodiesBodyLemmas.{bodies_good}
 use Rattle.au_judged_programs.specs.Judged.{CheckedProgramsAreJudged}
 
-all_active : (zs : List ℕ) → AreActive (λ k. true) zs
+pub all_active : (zs : List ℕ) → AreActive (λ k. true) zs
 all_active [] = tt
 all_active (z ∷ zs) = (refl, all_active zs)
 

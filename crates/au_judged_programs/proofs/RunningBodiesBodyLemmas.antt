@@ -22,7 +22,8 @@ use Rattle.au_type_texts.specs.Types.{ClosedType}
 use Rattle.au_written_types.specs.Written.{IsRegionName}
 use Rattle.au_modules.specs.Programs.{ModuleParts}
 use Rattle.au_names.specs.HeadsOf.{heads_of}
-use Rattle.au_judged_bodies.specs.Typing.Bodies.{GoodBody, body_scope, generics_in, outer_scope, with_parameters, with_result}
+use Rattle.au_judged_bodies.specs.Typing.Bodies.{GoodBody, body_scope, generics_in, outer_scope, with_parameters}
+use Rattle.au_judged_bodies.specs.Typing.Bodies.{with_result}
 use Rattle.au_judged_bodies.specs.Faults.{Noting, ◌>>=◌}
 use Rattle.au_judged_bodies.specs.InScope.{fixed_variable, with_variable}
 use Rattle.au_judged_bodies.specs.Lookups.{outcome_noted, written_means, written_type}
