@@ -1,5 +1,5 @@
 -- The functions of a checked program may be run as their calls are seen, in ways to which what is handed on leads.
-use Rattle.std.proofs.Common.{◌≡◌, ℕ, Bool, List, [], ◌∷◌, Option, None, Some, refl, sym, ap, subst}
+use Rattle.std.proofs.Common.{◌≡◌, ℕ, Bool, List, [], Option, refl, sym, ap, subst}
 use Rattle.std.specs.Option.{option_map}
 use Rattle.au_syntax.specs.declared.modules.Part.TheVariants.{Body}
 use Rattle.au_syntax.specs.Plain.{Bytes}
@@ -9,7 +9,6 @@ use Rattle.au_matching.specs.Bindings.{Bindings}
 use Rattle.au_type_texts.specs.Given.{Given}
 use Rattle.au_type_texts.specs.Types.{ClosedType}
 use Rattle.au_judged_types.specs.Bounds.{Bounded, parameters}
-use Rattle.au_judged_types.specs.Meanings.{written_params}
 use Rattle.au_modules.specs.Programs.{ModuleParts}
 use Rattle.au_names.specs.HeadsOf.{heads_of}
 use Rattle.au_typing.specs.Notes.{Note}
@@ -17,7 +16,7 @@ use Rattle.au_typing.specs.Outsides.{outside_of}
 use Rattle.au_typing.specs.Scopes.{Callable, Outside, Scope, Variable}
 use Rattle.au_typing.specs.Trees.{NotedParts}
 use Rattle.au_closing.specs.Instances.{Instance}
-use Rattle.au_closed_meanings.specs.Generic.{function_under, generic_functions, view_under}
+use Rattle.au_closed_meanings.specs.Generic.{function_under, view_under}
 use Rattle.au_memory.specs.Loans.{Types}
 use Rattle.au_meaning.specs.Names as meaning
 use Rattle.au_meaning.specs.Views.{Act, View, invokes, makes, ships}
@@ -26,18 +25,18 @@ use Rattle.au_tables.specs.Tables.{types_of}
 use Rattle.au_owners.specs.Owners.{owner_of}
 use Rattle.au_judged_bodies.specs.Blocks.{MayRun}
 use Rattle.au_judged_bodies.specs.Covering.{Covers, MayHold}
-use Rattle.au_judged_bodies.specs.Frames.{FrameFits, RecordIsSeen, VariableIsThere}
+use Rattle.au_judged_bodies.specs.Frames.{FrameFits}
 use Rattle.au_judged_bodies.specs.Held.{IsPermitted, Permits}
 use Rattle.au_judged_bodies.specs.Keys.{ConstraintsHold, Key, ways}
 use Rattle.au_judged_bodies.specs.Known.{Callables, Calls, callees}
-use Rattle.au_judged_bodies.specs.Rounds.{RoundFits, UnionIsSeen}
+use Rattle.au_judged_bodies.specs.Rounds.{RoundFits}
 use Rattle.au_judged_bodies.specs.Sights.{AreHandedAs, CallIsSeen}
 use Rattle.au_judged_bodies.specs.StandingTypesStanding.{StandsFor}
 use Rattle.au_judged_bodies.specs.TypedRunsLaws.{CallsRun}
 use Rattle.au_judged_bodies.proofs.ArgumentLemmas.{seen_run}
 use Rattle.au_judged_programs.specs.CheckedChecked.{IsChecked}
 use Rattle.au_judged_programs.specs.Judged.{anywhere}
-use Rattle.au_judged_programs.specs.RoundProgramsBodies.{AreGoodHere, CallsRunHere}
+use Rattle.au_judged_programs.specs.RoundProgramsBodies.{AreGoodHere}
 use Rattle.au_judged_programs.specs.RunningBodiesBodies.{generics_of}
 use Rattle.au_judged_programs.proofs.CallsRunCallLemmas.{call_seen}
 use Rattle.au_judged_programs.proofs.CheckedLemmas.{program_fits}
@@ -45,9 +44,9 @@ use Rattle.au_judged_programs.proofs.ConstantLemmas.{constants_of_programs_stand
 use Rattle.au_judged_programs.proofs.JudgedLemmas.{function_tells, may_run_seen}
 use Rattle.au_judged_programs.proofs.RoundLemmas.{round_fits}
 use Rattle.au_judged_programs.proofs.SoundEntriesCallLemmas.{calls_of_programs, others_seen}
-use Rattle.au_caps_laws.specs.Performing.{act_called, acting, acting_function}
+use Rattle.au_caps_laws.specs.Watching.{act_called, acting, acting_function}
 use Rattle.au_caps_laws.proofs.AlwaysLemmas.{Performed, invoked, performed, performed_in}
-use Rattle.au_caps_laws.proofs.LookLemmas.{made_calls}
+use Rattle.au_caps_laws.proofs.WatchLemmas.{made_calls}
 
 -- ---- what fits a view fits it where calls are seen
 

@@ -1,31 +1,29 @@
 -- Calls are safe in the ways in which they are made, whatever they do, where those of functions are.
-use Rattle.std.proofs.Common.{◌≡◌, ℕ, Bool, true, false, List, [], ◌∷◌, Option, None, Some, length, refl, sym, subst}
+use Rattle.std.proofs.Common.{◌≡◌, ℕ, Bool, true, false, List, ◌∷◌, Option, None, Some, refl, sym, subst}
 use Rattle.au_effects.specs.Answers as answer
 use Rattle.au_effects.specs.Answers.{Answer}
 use Rattle.au_shipped.specs.declared.prims.ShippedCall.{ShippedCall}
 use Rattle.au_syntax.specs.Plain.{Bytes}
 use Rattle.au_type_texts.specs.Types.{ClosedType}
 use Rattle.au_types.specs.Types.{Meaning}
-use Rattle.au_memory.specs.Forests.{Made}
 use Rattle.au_memory.specs.Loans.{Types}
-use Rattle.au_lending.specs.Records.{onto, types_made}
-use Rattle.au_meaning.specs.Acts.{answered, heard, makes_value, operation, shipped_by, ships_call, told}
+use Rattle.au_lending.specs.Records.{types_made}
+use Rattle.au_meaning.specs.Acts.{answered, makes_value, operation, shipped_by, ships_call, told}
 use Rattle.au_meaning.specs.Expressions as evaluator
 use Rattle.au_meaning.specs.Ticks.{Out, Action, aborts, comes, cut, follows, gives, no_rule}
 use Rattle.au_meaning.specs.Views.{View, invokes, makes, ships}
 use Rattle.au_meaning.specs.Views as views
 use Rattle.au_meaning.specs.Worlds.{Value, World}
 use Rattle.au_running_judgements.specs.Expressions.{Bears, Performs}
-use Rattle.au_safe_ships.specs.Frames.{Frame}
 use Rattle.au_safe_ships.specs.Good.{IsIn, lying_in}
 use Rattle.au_safe_ships.specs.Making.{values_of}
-use Rattle.au_safe_ships.specs.Orders.{Act, Lying, is_active}
+use Rattle.au_safe_ships.specs.Orders.{Lying, is_active}
 use Rattle.au_safe_ships.proofs.GoodLemmas.{good_uncut}
 use Rattle.au_sound_blocks.specs.Actions.{ActionsAreSafe}
 use Rattle.au_sound_blocks.specs.Held.{GoodHeld, IsCutSo, Permits}
-use Rattle.au_sound_blocks.specs.Known.{AreActive, Callables}
-use Rattle.au_sound_blocks.specs.Safe.{AllWait, CallsSafe}
-use Rattle.au_caps_laws.proofs.AlwaysLemmas.{Performed, performed}
+use Rattle.au_sound_blocks.specs.Known.{Callables}
+use Rattle.au_sound_blocks.specs.Safe.{CallsSafe}
+use Rattle.au_caps_laws.proofs.AlwaysLemmas.{performed}
 
 -- ---- borrows lie as they did
 

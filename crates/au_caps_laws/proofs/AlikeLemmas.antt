@@ -29,9 +29,8 @@ use Rattle.au_meaning.specs.Ticks.{Action, Out, aborts, by_truth, cut, follows, 
 use Rattle.au_meaning.specs.Ticks.{pure, stuck, tick, ticked, where_true, ◌>>=◌, ◌>>◌}
 use Rattle.au_meaning.specs.Views.{Act, Callee, Field, Function, View, invokes, makes, ships}
 use Rattle.au_meaning.specs.Worlds.{Value, World}
-use Rattle.au_caps_laws.specs.Performing.{ActWatch, act_called, acted_at, acting}
-use Rattle.au_caps_laws.specs.Performing.{enters_looking, looked_at, with_callees}
-use Rattle.au_caps_laws.specs.Watching.{Watch, tested, watched_at}
+use Rattle.au_caps_laws.specs.Watching.{Watch, act_called, acting, enters_looking, looked_at, tested, watched_at}
+use Rattle.au_caps_laws.specs.Watching.{with_callees}
 
 -- no rule applies
 abbrev pub IsStuck : {A : Type 0} → Out A → Type 0
@@ -365,20 +364,6 @@ module _ {I T C : Type 0} (see : View I T C) (f g : I → List Value → Action 
   calls_alike None order = same stuck
   calls_alike (Some one) order = needing_alike (order one.parameters) _ _ (λ args. acts_alike one.act args)
 
-enters_alike : {I T C : Type 0} (f g : I → List Value → Action Value)
-    → ((one : I) (args : List Value) → Alike (f one args) (g one args)) → (depth : ℕ) (o : Option (Function I T C))
-    (args : List Value) → Alike (enters f depth o args) (enters g depth o args)
-enters_alike f g each depth None args = same stuck
-enters_alike f g each depth (Some one) args =
-    where_alike (length args == length one.parameters) _ _
-    (and_alike _ _ _ _ (same _)
-    (then_alike _ _ _ _
-    (closing_alike _ _ (then_alike _ _ returned returned
-    (block_alike one.view one.view.callee f g (λ note c name order.
-    calls_alike one.view f g each (one.view.callee note c name) order)
-    depth (one.first + length args) (scope_of one) one.body) (λ flow. same _)))
-    (λ value. same _)))
-
 tested_alike : {A : Type 0} (test : World → Bool) (m n : Action A) → Alike m n → Alike (tested test m) n
 tested_alike test m n one w ticks = by (test w)
   where
@@ -418,32 +403,6 @@ begun_alike (p ∷ []) f g each = and_alike _ _ _ _ (same _) (each (values.root 
 begun_alike (p ∷ q ∷ more) f g each = same stuck
 
 module _ {I T C : Type 0} (functions : I → Option (Function I T C)) (watch : Watch I) where
-  watched_alike : (depth : ℕ) (caller : Option I) (one : I) (args : List Value)
-      → Alike (watched_at watch functions depth caller one args) (call_at functions depth one args)
-  unfolding watched_at call_at
-  watched_alike zero caller one args w ticks = inl refl
-  watched_alike (suc depth) caller one args w ticks =
-      behind_alike (watch.returned one)
-      (tested (watch.passed caller one args)
-      (enters (watched_at watch functions depth (Some one)) depth (functions one) args) w ticks)
-      (enters (call_at functions depth) depth (functions one) args w ticks)
-      (tested_alike (watch.passed caller one args) _ _
-      (enters_alike (watched_at watch functions depth (Some one)) (call_at functions depth)
-      (λ other values. watched_alike depth (Some one) other values) depth (functions one) args) w ticks)
-
-  -- what a program does under a watch is what it does, or it is stuck
-  pub means_alike : (entry : I) (input : List ℕ) (ticks : ℕ)
-      → IsOne
-      (begun (parameters_of (functions entry)) (watched_at watch functions (suc ticks) None entry) (first_world input)
-      ticks)
-      (begun (parameters_of (functions entry)) (call_at functions (suc ticks) entry) (first_world input) ticks)
-  means_alike entry input ticks =
-      begun_alike (parameters_of (functions entry)) _ _ (λ args. watched_alike (suc ticks) None entry args)
-      (first_world input) ticks
-
--- ---- calls of which each is looked at
-
-module _ {I T C : Type 0} (functions : I → Option (Function I T C)) (watch : ActWatch I) where
   looked_alike : (see : View I T C) (caller : I) (f g : I → List Value → Action Value)
       → ((one : I) (args : List Value) → Alike (f one args) (g one args)) → (o : Option (Callee I))
       (order : List Bytes → Option (List Value))
@@ -468,25 +427,25 @@ module _ {I T C : Type 0} (functions : I → Option (Function I T C)) (watch : A
       depth (one.first + length args) (scope_of one) one.body) (λ flow. same _)))
       (λ value. same _)))
 
-  acted_alike : (depth : ℕ) (one : I) (args : List Value)
-      → Alike (acted_at watch functions depth one args) (call_at functions depth one args)
-  unfolding acted_at call_at
-  acted_alike zero one args w ticks = inl refl
-  acted_alike (suc depth) one args w ticks =
+  watched_alike : (depth : ℕ) (one : I) (args : List Value)
+      → Alike (watched_at watch functions depth one args) (call_at functions depth one args)
+  unfolding watched_at call_at
+  watched_alike zero one args w ticks = inl refl
+  watched_alike (suc depth) one args w ticks =
       behind_alike (watch.returned one)
-      (enters_looking watch one (acted_at watch functions depth) depth (functions one) args w ticks)
+      (enters_looking watch one (watched_at watch functions depth) depth (functions one) args w ticks)
       (enters (call_at functions depth) depth (functions one) args w ticks)
-      (looking_alike one (acted_at watch functions depth) (call_at functions depth)
-      (λ other values. acted_alike depth other values) depth (functions one) args w ticks)
+      (looking_alike one (watched_at watch functions depth) (call_at functions depth)
+      (λ other values. watched_alike depth other values) depth (functions one) args w ticks)
 
-  -- what a program does under a watch of all calls is what it does, or it is stuck
-  pub acted_means : (entry : I) (input : List ℕ) (ticks : ℕ)
+  -- what a program does under a watch is what it does, or it is stuck
+  pub means_alike : (entry : I) (input : List ℕ) (ticks : ℕ)
       → IsOne
       (begun (parameters_of (functions entry))
-      (λ args. tested (watch.passed None (invokes entry) args) (acted_at watch functions (suc ticks) entry args))
+      (λ args. tested (watch.passed None (invokes entry) args) (watched_at watch functions (suc ticks) entry args))
       (first_world input) ticks)
       (begun (parameters_of (functions entry)) (call_at functions (suc ticks) entry) (first_world input) ticks)
-  acted_means entry input ticks =
+  means_alike entry input ticks =
       begun_alike (parameters_of (functions entry)) _ _ (λ args.
-      tested_alike (watch.passed None (invokes entry) args) _ _ (acted_alike (suc ticks) entry args))
+      tested_alike (watch.passed None (invokes entry) args) _ _ (watched_alike (suc ticks) entry args))
       (first_world input) ticks

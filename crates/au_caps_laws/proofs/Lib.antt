@@ -23,5 +23,4 @@ pub mod WatchLemmas
 pub mod PassLemmas
 pub mod AlwaysLemmas
 pub mod ActsLemmas
-pub mod LookLemmas
 pub mod ActingLemmas

@@ -68,11 +68,10 @@ use Rattle.au_caps_laws.specs.Births.{run_as}
 use Rattle.au_caps_laws.specs.Passing.{AcceptedCallsAreListed, AreBoundedBy, AreHandedBy, AreHeldBy, AreTakenBy}
 use Rattle.au_caps_laws.specs.Passing.{CallsAreListed, IsBoundedBy, LetsPass}
 use Rattle.au_caps_laws.specs.Reach.{ClosedReaches, IsReachedOrGiven, declared_in, meant_among}
-use Rattle.au_caps_laws.specs.Performing.{ActWatch, acted_at, acted_mean}
-use Rattle.au_caps_laws.specs.Watching.{tested}
-use Rattle.au_caps_laws.proofs.AlikeLemmas.{IsOne, IsStuck, acted_means}
+use Rattle.au_caps_laws.specs.Watching.{Watch, tested, watched_at, watched_mean}
+use Rattle.au_caps_laws.proofs.AlikeLemmas.{IsOne, IsStuck, means_alike}
 use Rattle.au_caps_laws.proofs.ActingLemmas.{LeadsOn, Made, by_key, may_act, somewhere}
-use Rattle.au_caps_laws.proofs.LookLemmas.{AllAct, Begins, Passes, Returns, acted_well}
+use Rattle.au_caps_laws.proofs.WatchLemmas.{AllAct, Begins, Passes, Returns, watched_well}
 use Rattle.au_caps_laws.proofs.ReachLemmas.{arguments_handed, parameters_held, result_handed}
 use Rattle.au_caps_laws.proofs.RunForLemmas.{run_there}
 
@@ -250,7 +249,7 @@ module _ (program : List ModuleParts) (noted : List NotedParts) where
   act_taken (makes of tag home) kinds t h = tt
   act_taken (ships call born) kinds t h = tt
 
-  module _ (watch : ActWatch Instance) (lets : LetsPass program noted watch) (first : Instance → ℕ)
+  module _ (watch : Watch Instance) (lets : LetsPass program noted watch) (first : Instance → ℕ)
       (checked : IsChecked program noted) where
     abbrev functions : Instance → Option (Function Instance Note (Unit {0}))
     functions = generic_functions program noted first
@@ -337,28 +336,28 @@ module _ (program : List ModuleParts) (noted : List NotedParts) where
     way_same : (key : Key program noted)
         → IsEntry (types_of program) (owner_of program) (ways program noted) functions key
         → (input : List ℕ) (ticks : ℕ)
-        → acted_mean watch functions key.one input ticks ≡ mean functions key.one input ticks
-    way_same key entry input ticks = by (acted_means functions watch key.one input ticks)
+        → watched_mean watch functions key.one input ticks ≡ mean functions key.one input ticks
+    way_same key entry input ticks = by (means_alike functions watch key.one input ticks)
       where
-        well : IsSeenWell (owner_of program) (acted_mean watch functions key.one input ticks)
+        well : IsSeenWell (owner_of program) (watched_mean watch functions key.one input ticks)
         well =
-            acted_well (types_of program) (owner_of program) (somewhere program noted) (ways program noted)
+            watched_well (types_of program) (owner_of program) (somewhere program noted) (ways program noted)
             (anything (Made program noted)) from to watch safe functions all_act begins passes returns key entry input
             ticks
 
         by : IsOne
             (begun (parameters_of (functions key.one)) (λ args. tested (watch.passed None (invokes key.one) args)
-            (acted_at watch functions (suc ticks) key.one args)) (first_world input) ticks)
+            (watched_at watch functions (suc ticks) key.one args)) (first_world input) ticks)
             (begun (parameters_of (functions key.one)) (call_at functions (suc ticks) key.one) (first_world input)
             ticks)
-            → acted_mean watch functions key.one input ticks ≡ mean functions key.one input ticks
+            → watched_mean watch functions key.one input ticks ≡ mean functions key.one input ticks
         by (inl same) = ap (seen ticks) same
         by (inr stuck) = absurd (no_stuck (owner_of program) ticks _ stuck well)
 
   pub calls_listed : IsChecked program noted → CallsAreListed program noted
   calls_listed checked watch lets first target entry input ticks =
       let (key, called, its) = entry_way program noted checked target entry first in
-      subst (λ (one : Instance). acted_mean watch (generic_functions program noted first) one input ticks
+      subst (λ (one : Instance). watched_mean watch (generic_functions program noted first) one input ticks
       ≡ mean (generic_functions program noted first) one input ticks) called
       (way_same watch lets first checked key its input ticks)
 

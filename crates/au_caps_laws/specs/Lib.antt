@@ -10,4 +10,3 @@ pub mod Reach
 pub mod Held
 pub mod Watching
 pub mod Passing
-pub mod Performing

@@ -32,7 +32,7 @@ use Rattle.au_caps_lists.specs.Bodies.{Bodied}
 use Rattle.au_caps_lists.specs.Holding.{Hands, Holds}
 use Rattle.au_caps_laws.specs.Births.{IsRunFor}
 use Rattle.au_caps_laws.specs.Reach.{ClosedReaches, IsReachedOrGiven}
-use Rattle.au_caps_laws.specs.Performing.{ActWatch, acted_mean}
+use Rattle.au_caps_laws.specs.Watching.{Watch, watched_mean}
 
 module _ (program : List ModuleParts) where
   -- The type of a value is bounded by a list of heads: it closes, and then it reaches only what is on the
@@ -87,8 +87,8 @@ module _ (program : List ModuleParts) (noted : List NotedParts) where
 
   -- The precondition of calls, whatever they do: what a call is passed is of some types, which what is called
   -- takes, and which the function or method that makes the call hands on.
-  pub record IsPassedWell (caller : Option Instance) (act : views.Act Instance) (args : List Value) (w : World)
-      : Type 0 where
+  pub record IsPassedWell (caller : Option Instance) (act : views.Act Instance) (args : List Value)
+      (w : World) : Type 0 where
     pub kinds : List Meaning
     pub typed : AreOf program args kinds w
     pub taken : AreTakenBy act kinds
@@ -105,7 +105,7 @@ module _ (program : List ModuleParts) (noted : List NotedParts) where
     pub listed : IsBoundedBy program one.given (Hands program body) ((ways program noted).result key)
 
   -- a watch lets pass what is passed and returned so
-  pub record LetsPass (watch : ActWatch Instance) : Type 0 where
+  pub record LetsPass (watch : Watch Instance) : Type 0 where
     pub passed : (caller : Option Instance) (act : views.Act Instance) (args : List Value) (w : World)
         → IsPassedWell caller act args w → watch.passed caller act args w ≡ true
     pub returned : (one : Instance) (value : Value) (w : World) → IsReturnedWell one value w
@@ -117,9 +117,9 @@ module _ (program : List ModuleParts) (noted : List NotedParts) where
   -- makes a value, and what functions and methods return, is passed and returned so.
   abbrev pub CallsAreListed : Type 0
   CallsAreListed =
-      (watch : ActWatch Instance) → LetsPass watch → (first : Instance → ℕ) (target : Target)
+      (watch : Watch Instance) → LetsPass watch → (first : Instance → ℕ) (target : Target)
       → IsEntryHere program noted target → (input : List ℕ) (ticks : ℕ)
-      → acted_mean watch (generic_functions program noted first) (record { of = target; given = [] }) input
+      → watched_mean watch (generic_functions program noted first) (record { of = target; given = [] }) input
       ticks
       ≡ mean (generic_functions program noted first) (record { of = target; given = [] }) input ticks
 
