@@ -246,8 +246,8 @@ module _ (program : List ModuleParts) (noted : List NotedParts) where
   act_taken (invokes one) kinds t (key, of, takes, leads, on) =
       subst (λ (f : Instance). AreHeldBy program noted f kinds) of
       (subst (AreHeldBy program noted key.one) takes (way_taken key))
-  act_taken (makes of tag home) kinds t h = tt
-  act_taken (ships call born) kinds t h = tt
+  act_taken (makes of tag home) kinds t h = (t, h.0)
+  act_taken (ships call born) kinds t h = (t, h)
 
   module _ (watch : Watch Instance) (lets : LetsPass program noted watch) (first : Instance → ℕ)
       (checked : IsChecked program noted) where

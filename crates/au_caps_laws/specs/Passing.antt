@@ -22,6 +22,7 @@ use Rattle.au_accepted.specs.Programs.{program_modules}
 use Rattle.au_accepted.specs.Trees.{ReadFile}
 use Rattle.au_tables.specs.Tables.{types_of}
 use Rattle.au_owners.specs.Owners.{owner_of}
+use Rattle.au_running_judgements.specs.Shipping.{Ships}
 use Rattle.au_safe_ships.specs.Frames.{Frame}
 use Rattle.au_safe_ships.specs.Good.{IsIn}
 use Rattle.au_safe_ships.specs.Making.{values_of}
@@ -78,15 +79,17 @@ module _ (program : List ModuleParts) (noted : List NotedParts) where
     pub runs : IsRunFor program noted one.of body
     pub listed : AreBoundedBy program one.given (Holds program body) ts
 
-  -- So are the types of what a call is passed, where it calls a function or a method; where it makes a value
-  -- of a case, or is a shipped call, nothing is asked of them.
+  -- Types of what a call is passed are those that it takes: where it calls a function or a method, they are
+  -- held by this; where it makes a value of a case of a type, they are those of the fields of this case; and
+  -- a shipped call may be called at them.
   abbrev pub AreTakenBy : views.Act Instance → List Meaning → Type 0
   AreTakenBy (invokes one) ts = AreHeldBy one ts
-  AreTakenBy (makes of tag home) ts = Unit {0}
-  AreTakenBy (ships call born) ts = Unit {0}
+  AreTakenBy (makes of tag home) ts = (t : Meaning) × ((types_of program).fields t tag ≡ Some ts)
+  AreTakenBy (ships call born) ts =
+      (t : Meaning) × Ships (types_of program) (owner_of program) (λ k. true) call born ts t
 
-  -- The precondition of calls, whatever they do: what a call is passed is of some types, which what is called
-  -- takes, and which the function or method that makes the call hands on.
+  -- The precondition of calls, whatever they do: what a call is passed is of some types, which it takes, and
+  -- which the function or method that makes the call hands on.
   pub record IsPassedWell (caller : Option Instance) (act : views.Act Instance) (args : List Value)
       (w : World) : Type 0 where
     pub kinds : List Meaning
