@@ -80,9 +80,7 @@ module _ (program : List ModuleParts) (noted : List NotedParts) where
     integer_listed b runs kind = record {
       body = b;
       runs = runs;
-      of = closed_types.integer kind;
-      closes = refl;
-      held = λ h (a, there, its). absurd (among [] a there);
+      bounded = (closed_types.integer kind, refl, λ h (a, there, its). absurd (among [] a there));
     }
 
     reads_listed : (t : Meaning) (region : Region) → IsListed program noted key t
@@ -91,9 +89,11 @@ module _ (program : List ModuleParts) (noted : List NotedParts) where
     reads_listed t region its = record {
       body = its.body;
       runs = its.runs;
-      of = closed_types.reads its.of;
-      closes = ap (option_map closed_types.reads) its.closes;
-      held = λ h reaches. its.held h reaches;
+      bounded = (
+        closed_types.reads its.bounded.0,
+        ap (option_map closed_types.reads) its.bounded.1,
+        λ h reaches. its.bounded.2 h reaches,
+      );
     }
 
     writes_listed : (t : Meaning) (region : Region) → IsListed program noted key t
@@ -102,9 +102,11 @@ module _ (program : List ModuleParts) (noted : List NotedParts) where
     writes_listed t region its = record {
       body = its.body;
       runs = its.runs;
-      of = closed_types.writes its.of;
-      closes = ap (option_map closed_types.writes) its.closes;
-      held = λ h reaches. its.held h reaches;
+      bounded = (
+        closed_types.writes its.bounded.0,
+        ap (option_map closed_types.writes) its.bounded.1,
+        λ h reaches. its.bounded.2 h reaches,
+      );
     }
 
     -- whichever region a reference is into
@@ -113,9 +115,7 @@ module _ (program : List ModuleParts) (noted : List NotedParts) where
     region_listed t region other its = record {
       body = its.body;
       runs = its.runs;
-      of = its.of;
-      closes = its.closes;
-      held = its.held;
+      bounded = its.bounded;
     }
 
     lent_listed : (m : BorrowMode) (region : Bytes) (t of : Meaning) → lent m t ≡ Some of → (s : Bindings)
@@ -172,9 +172,7 @@ module _ (program : List ModuleParts) (noted : List NotedParts) where
     type_listed s t closes held = record {
       body = b;
       runs = runs;
-      of = closed_under given t;
-      closes = closes;
-      held = held;
+      bounded = (closed_under given t, closes, held);
     }
 
     body_covered : Covers (MayHold (permits program noted) key (AreGoodHere program noted b.place generics given))

@@ -66,8 +66,8 @@ use Rattle.au_caps_lists.specs.Bodies.{Bodied, params_of}
 use Rattle.au_caps_lists.specs.Holding.{Hands, Holds}
 use Rattle.au_caps_laws.specs.Births.{run_as}
 use Rattle.au_caps_laws.specs.Passing.{AcceptedCallsAreListed, AreBoundedBy, AreHandedBy, AreHeldBy, AreTakenBy}
-use Rattle.au_caps_laws.specs.Passing.{CallsAreListed, IsBoundedBy, LetsPass}
-use Rattle.au_caps_laws.specs.Reach.{ClosedReaches, IsReachedOrGiven, declared_in, meant_among}
+use Rattle.au_caps_laws.specs.Passing.{CallsAreListed, LetsPass}
+use Rattle.au_caps_laws.specs.Reach.{ClosedReaches, IsBoundedBy, IsReachedOrGiven, declared_in, meant_among}
 use Rattle.au_caps_laws.specs.Watching.{Watch, tested, watched_at, watched_mean}
 use Rattle.au_caps_laws.proofs.AlikeLemmas.{IsOne, IsStuck, means_alike}
 use Rattle.au_caps_laws.proofs.ActingLemmas.{LeadsOn, Made, by_key, may_act, somewhere}

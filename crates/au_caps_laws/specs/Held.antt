@@ -1,10 +1,8 @@
 -- What names hold while an accepted program runs.
-use Rattle.std.specs.Prelude.{◌≡◌, ℕ, Bool, List, [], ◌∷◌, Some}
+use Rattle.std.specs.Prelude.{◌≡◌, ℕ, Bool, List, [], ◌∷◌}
 use Rattle.au_base.specs.Outside.{Files}
 use Rattle.au_syntax.specs.Plain.{Bytes}
 use Rattle.au_types.specs.Types.{Meaning}
-use Rattle.au_type_texts.specs.Closing.{closed}
-use Rattle.au_type_texts.specs.Types.{ClosedType}
 use Rattle.au_modules.specs.Programs.{ModuleParts}
 use Rattle.au_names.specs.declared.targets.Target.{Target}
 use Rattle.au_typing.specs.Trees.{NotedParts}
@@ -24,19 +22,15 @@ use Rattle.au_judged_programs.specs.Sound.{run_of}
 use Rattle.au_caps_lists.specs.Bodies.{Bodied}
 use Rattle.au_caps_lists.specs.Holding.{Holds}
 use Rattle.au_caps_laws.specs.Births.{IsRunFor}
-use Rattle.au_caps_laws.specs.Reach.{ClosedReaches, IsReachedOrGiven}
+use Rattle.au_caps_laws.specs.Reach.{IsBoundedBy}
 
 module _ (program : List ModuleParts) (noted : List NotedParts) where
-  -- Where a function or method is called in a way, values of a type may be held by the report: the type
-  -- closes, and whatever it reaches then is held by the function or method that is run, by the report's list,
-  -- or is reached by what is given for its type parameters.
+  -- Where a function or method is called in a way, values of a type may be held by the report: the type is
+  -- bounded by what the function or method that is run holds.
   pub record IsListed (key : Key program noted) (t : Meaning) : Type 0 where
     pub body : Bodied
     pub runs : IsRunFor program noted key.one.of body
-    pub of : ClosedType
-    pub closes : closed t ≡ Some of
-    pub held : (h : Bytes) → ClosedReaches program of h
-        → IsReachedOrGiven program key.one.given (Holds program body) h
+    pub bounded : IsBoundedBy program key.one.given (Holds program body) t
 
   -- a permit that says so
   pub record Permit : Type 0 where

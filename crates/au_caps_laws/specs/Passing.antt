@@ -3,9 +3,7 @@ use Rattle.std.specs.Prelude.{◌≡◌, ℕ, true, List, [], ◌∷◌, Option,
 use Rattle.au_base.specs.Outside.{Files}
 use Rattle.au_syntax.specs.Plain.{Bytes}
 use Rattle.au_types.specs.Types.{Meaning}
-use Rattle.au_type_texts.specs.Closing.{closed}
 use Rattle.au_type_texts.specs.Given.{Given}
-use Rattle.au_type_texts.specs.Types.{ClosedType}
 use Rattle.au_modules.specs.Programs.{ModuleParts}
 use Rattle.au_names.specs.declared.targets.Target.{Target}
 use Rattle.au_typing.specs.Trees.{NotedParts}
@@ -32,21 +30,14 @@ use Rattle.au_judged_programs.specs.Entries.{IsEntryHere}
 use Rattle.au_caps_lists.specs.Bodies.{Bodied}
 use Rattle.au_caps_lists.specs.Holding.{Hands, Holds}
 use Rattle.au_caps_laws.specs.Births.{IsRunFor}
-use Rattle.au_caps_laws.specs.Reach.{ClosedReaches, IsReachedOrGiven}
+use Rattle.au_caps_laws.specs.Reach.{IsBoundedBy}
 use Rattle.au_caps_laws.specs.Watching.{Watch, watched_mean}
 
 module _ (program : List ModuleParts) where
-  -- The type of a value is bounded by a list of heads: it closes, and then it reaches only what is on the
-  -- list, or what is reached by what is given for type parameters.
-  abbrev pub IsBoundedBy : Given → (Bytes → Type 0) → Meaning → Type 0
-  IsBoundedBy given Lists t =
-      (of : ClosedType) × (closed t ≡ Some of)
-      × ((h : Bytes) → ClosedReaches program of h → IsReachedOrGiven program given Lists h)
-
-  -- so is each of types
+  -- the type of each of some values is bounded by a list of heads
   abbrev pub AreBoundedBy : Given → (Bytes → Type 0) → List Meaning → Type 0
   AreBoundedBy given Lists [] = Unit {0}
-  AreBoundedBy given Lists (t ∷ ts) = IsBoundedBy given Lists t × AreBoundedBy given Lists ts
+  AreBoundedBy given Lists (t ∷ ts) = IsBoundedBy program given Lists t × AreBoundedBy given Lists ts
 
   -- Values are of these types in a world: they are under way in it, the last on top of the others, and it is
   -- as a world should be.

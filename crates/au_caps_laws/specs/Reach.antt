@@ -9,6 +9,7 @@ use Rattle.au_types.specs.declared.types.DeclAt.{DeclAt}
 use Rattle.au_types.specs.Meant.{meant}
 use Rattle.au_types.specs.Senses.{sense_of}
 use Rattle.au_types.specs.Types.{Meaning}
+use Rattle.au_type_texts.specs.Closing.{closed}
 use Rattle.au_type_texts.specs.Given.{Given, closed_under, given_for}
 use Rattle.au_type_texts.specs.Types.{ClosedType, ClosedTypes, integer, named, no_types, reads, text, truth}
 use Rattle.au_type_texts.specs.Types.{types, unit, writes}
@@ -71,6 +72,13 @@ module _ (program : List ModuleParts) where
   -- a head is reached, or what is given for a type parameter reaches it
   abbrev pub IsReachedOrGiven : Given → (Bytes → Type 0) → Bytes → Type 0
   IsReachedOrGiven given Reached h = Reached h ⊎ ((name : Bytes) × ClosedReaches (given_for given name) h)
+
+  -- The type of a value is bounded by a list of heads: it closes, and then it reaches only what is on the
+  -- list, or what is reached by what is given for type parameters.
+  abbrev pub IsBoundedBy : Given → (Bytes → Type 0) → Meaning → Type 0
+  IsBoundedBy given Lists t =
+      (of : ClosedType) × (closed t ≡ Some of)
+      × ((h : Bytes) → ClosedReaches of h → IsReachedOrGiven given Lists h)
 
   module _ (b : Bodied) (given : Given) where
     -- what a written type means in the body of a function or method, where these regions are open
