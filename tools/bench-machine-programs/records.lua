@@ -7,4 +7,4 @@ for i = 1, 1000000 do
   local counted = raised({ point = { x = i, y = i }, count = 0 })
   total = total + counted.point.x + counted.count
 end
-print(total)
+print(string.format("%d", total))

@@ -1,3 +1,3 @@
 local total = 0
 for i = 1, 10000000 do total = total + i end
-print(total)
+print(string.format("%d", total))
